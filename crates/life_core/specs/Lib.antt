@@ -1,0 +1,10 @@
+pub mod Causes
+pub mod Due
+pub mod Listed
+pub mod Meaning
+pub mod Memory
+pub mod Message
+pub mod Moment
+pub mod Poll
+pub mod Recorded
+pub mod Texts

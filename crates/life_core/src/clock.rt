@@ -1,0 +1,26 @@
+//! Times and lengths, in whole nanoseconds.
+ghost use Rattle.std.specs.Prelude.{◌≡◌};
+ghost use Rattle.life_core.specs.Due.{due, since};
+
+/// Started at one time, for some length.
+#[derive(Clone, Copy, Debug)]
+pub struct Timer {
+    pub start: u64,
+    pub length: u64,
+}
+
+impl Timer {
+    /// Whether the length is over. A clock below the start is not due, and length 0 is due at its start.
+    pub fn is_due(self, now: u64) -> bool
+        ensures { result ≡ due self.start self.length now }
+    {
+        now >= self.start && now - self.start >= self.length
+    }
+}
+
+/// How long ago the start was, or 0 where it lies ahead.
+pub fn since(start: u64, now: u64) -> u64
+    ensures { result ≡ since start now }
+{
+    now.saturating_sub(start)
+}

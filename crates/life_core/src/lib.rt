@@ -1,0 +1,44 @@
+//! The base that the layers stand on: the context of a poll, the recorder, messages, the polled traits,
+//! lists and texts that contracts see as plain values, and the source and sink of a program.
+#![tactic(auto)]
+
+mod body;
+mod clock;
+mod context;
+mod event;
+mod future;
+mod latency;
+mod list;
+mod log;
+mod memory;
+mod message;
+mod outside;
+mod poll;
+mod recorder;
+mod service;
+mod span;
+mod spend;
+mod text;
+mod twin;
+
+pub use body::{Body, BodyError, DefaultBody};
+pub use clock::{Timer, since};
+pub use context::Cx;
+pub use event::{DropKind, Event, Events};
+pub use future::Future;
+pub use latency::{Latency, LatencyUnit};
+pub use list::List;
+pub use log::Log;
+pub use memory::{Calls, MemorySink, MemorySource};
+pub use message::{Request, RequestHead, Response, ResponseHead};
+pub use outside::{Failed, Sink, Source};
+pub use poll::Poll;
+pub use recorder::{NoMemory, Recorder};
+pub use service::Service;
+pub use span::Span;
+pub use spend::{Sound, Spend};
+pub use text::{Octets, Text};
+pub use twin::Twin;
+
+/// A value, or want of memory.
+pub type Got<T> = Result<T, NoMemory>;

@@ -1,0 +1,53 @@
+//! The recorder in memory.
+ghost use Rattle.std.specs.Prelude.{◌≡◌, []};
+
+use crate::Got;
+use crate::event::{DropKind, Event, Events};
+use crate::list::List;
+use crate::recorder::Recorder;
+use std::alloc::Global;
+use std::marker::PhantomData;
+
+/// A list of events.
+#[derive(Drop)]
+pub struct Log {
+    alloc: Global,
+    events: Events,
+    /// Names a type inside of the events, which the proof of `note` has to see.
+    kinds: PhantomData<DropKind>,
+}
+
+impl Log {
+    /// An empty log. It takes no memory.
+    pub fn new(alloc: Global) -> Log
+        ensures { result.events.items ≡ [] }
+    {
+        Log {
+            alloc,
+            events: List::new(alloc),
+            kinds: PhantomData,
+        }
+    }
+
+    /// Takes all events out, and leaves an empty log without room. It takes no memory.
+    pub fn take(&mut self) -> Events
+        ensures taken { result ≡ self.old.events }
+        ensures left { self.new.events ≡ record { items = []; spare = 0 } }
+    {
+        std::mem::replace(&mut self.events, List::new(self.alloc))
+    }
+}
+
+impl Recorder for Log {
+    ghost recorded = { λ l. record { log = l.events.items; spare = l.events.spare; rest = (0, 0, 0) } };
+
+    ghost place = { λ _. [] };
+
+    fn reserve(&mut self, n: u64) -> Got<()> {
+        self.events.reserve(n)
+    }
+
+    fn note(&mut self, event: Event) -> Got<()> {
+        self.events.push(event)
+    }
+}

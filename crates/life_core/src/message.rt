@@ -1,0 +1,193 @@
+//! Requests and responses: the message of `http` with an extension of a type of the caller's.
+ghost use Rattle.std.specs.Prelude.{◌≡◌};
+ghost use Rattle.http.specs.Request.{IsNewHead as IsNewRequestHead};
+ghost use Rattle.http.specs.Response.{IsNewHead as IsNewResponseHead};
+ghost use Rattle.life_core.specs.Message.{IsBare};
+
+use http::request::Parts as RequestParts;
+use http::response::Parts as ResponseParts;
+use http::{HeaderMap, HeaderValue, Method, StatusCode, Uri, Version};
+use std::alloc::Global;
+
+/// All of a request but its body.
+#[derive(Drop)]
+pub struct RequestHead<X> {
+    pub parts: RequestParts,
+    pub ext: X,
+}
+
+/// A request with a body of type `B` and an extension of type `X`.
+pub struct Request<B, X> {
+    pub head: RequestHead<X>,
+    pub body: B,
+}
+
+impl<B, X> Request<B, X> {
+    /// GET `/` in HTTP/1.1, with no headers.
+    pub fn new(alloc: Global, body: B, ext: X) -> Request<B, X>
+        ensures parts { IsNewRequestHead result.head.parts }
+        ensures ext { result.head.ext ≡ ext }
+        ensures body { result.body ≡ body }
+    {
+        Request {
+            head: RequestHead {
+                parts: RequestParts::new(alloc),
+                ext,
+            },
+            body,
+        }
+    }
+
+    /// The message with this head and this body.
+    pub fn from_parts(head: RequestHead<X>, body: B) -> Request<B, X>
+        ensures { result ≡ record { head = head; body = body } }
+    {
+        Request { head, body }
+    }
+
+    /// The head and the body.
+    pub fn into_parts(self) -> (RequestHead<X>, B)
+        ensures { (result.0 ≡ self.head) × (result.1 ≡ self.body) }
+    {
+        let Request { head, body } = self;
+        (head, body)
+    }
+
+    /// The method.
+    pub fn method(&self) -> &Method
+        ensures { result.now ≡ self.now.head.parts.method }
+    {
+        &self.head.parts.method
+    }
+
+    /// The target.
+    pub fn uri(&self) -> &Uri
+        ensures { result.now ≡ self.now.head.parts.uri }
+    {
+        &self.head.parts.uri
+    }
+
+    /// The version.
+    pub fn version(&self) -> Version
+        ensures { result ≡ self.now.head.parts.version }
+    {
+        self.head.parts.version
+    }
+
+    /// The header fields.
+    pub fn headers(&self) -> &HeaderMap<HeaderValue>
+        ensures { result.now ≡ self.now.head.parts.headers }
+    {
+        &self.head.parts.headers
+    }
+
+    /// The extension.
+    pub fn ext(&self) -> &X
+        ensures { result.now ≡ self.now.head.ext }
+    {
+        &self.head.ext
+    }
+
+    /// The body.
+    pub fn body(&self) -> &B
+        ensures { result.now ≡ self.now.body }
+    {
+        &self.body
+    }
+}
+
+/// All of a response but its body.
+#[derive(Drop)]
+pub struct ResponseHead<X> {
+    pub parts: ResponseParts,
+    pub ext: X,
+}
+
+impl<X> ResponseHead<X> {
+    /// A head with this status, HTTP/1.1, no headers and the default extension.
+    pub fn bare(alloc: Global, status: StatusCode) -> ResponseHead<X>
+    where
+        X: Default,
+        ensures { IsBare X.is_default status result }
+    {
+        let mut parts = ResponseParts::new(alloc);
+        parts.status = status;
+        ResponseHead {
+            parts,
+            ext: X::default(),
+        }
+    }
+
+    /// The status.
+    pub fn status(&self) -> StatusCode
+        ensures { result ≡ self.now.parts.status }
+    {
+        self.parts.status
+    }
+}
+
+/// A response with a body of type `B` and an extension of type `X`.
+pub struct Response<B, X> {
+    pub head: ResponseHead<X>,
+    pub body: B,
+}
+
+impl<B, X> Response<B, X> {
+    /// Status 200 in HTTP/1.1, with no headers.
+    pub fn new(alloc: Global, body: B, ext: X) -> Response<B, X>
+        ensures parts { IsNewResponseHead result.head.parts }
+        ensures ext { result.head.ext ≡ ext }
+        ensures body { result.body ≡ body }
+    {
+        Response {
+            head: ResponseHead {
+                parts: ResponseParts::new(alloc),
+                ext,
+            },
+            body,
+        }
+    }
+
+    /// The message with this head and this body.
+    pub fn from_parts(head: ResponseHead<X>, body: B) -> Response<B, X>
+        ensures { result ≡ record { head = head; body = body } }
+    {
+        Response { head, body }
+    }
+
+    /// The head and the body.
+    pub fn into_parts(self) -> (ResponseHead<X>, B)
+        ensures { (result.0 ≡ self.head) × (result.1 ≡ self.body) }
+    {
+        let Response { head, body } = self;
+        (head, body)
+    }
+
+    /// The status.
+    pub fn status(&self) -> StatusCode
+        ensures { result ≡ self.now.head.parts.status }
+    {
+        self.head.parts.status
+    }
+
+    /// The header fields.
+    pub fn headers(&self) -> &HeaderMap<HeaderValue>
+        ensures { result.now ≡ self.now.head.parts.headers }
+    {
+        &self.head.parts.headers
+    }
+
+    /// The extension.
+    pub fn ext(&self) -> &X
+        ensures { result.now ≡ self.now.head.ext }
+    {
+        &self.head.ext
+    }
+
+    /// The body.
+    pub fn body(&self) -> &B
+        ensures { result.now ≡ self.now.body }
+    {
+        &self.body
+    }
+}

@@ -1,0 +1,3 @@
+pub mod ScriptView
+pub mod ToldView
+pub mod Views

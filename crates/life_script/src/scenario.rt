@@ -1,0 +1,149 @@
+//! What is asked: the limits of the stack, the script of the service and the steps of its client.
+ghost use Rattle.std.specs.Prelude.{◌≡◌, IfOk};
+
+use http::StatusCode;
+use life_core::{Got, List, Octets, Twin};
+use std::alloc::Global;
+use std::marker::Model;
+
+/// How the layers are set. Times are in nanoseconds.
+#[derive(Clone, Copy, Debug)]
+pub struct Limits {
+    /// How long a response may take.
+    pub timeout: u64,
+    /// The status where it takes longer.
+    pub timeout_status: StatusCode,
+    /// How long a response's body may take.
+    pub body_deadline: u64,
+}
+
+/// What a body gives at one poll.
+#[derive(Debug, Drop)]
+pub enum BodyItem {
+    Chunk(Octets),
+    Pending,
+}
+
+/// What a body gives, poll by poll.
+pub type BodyItems = List<BodyItem>;
+
+impl Twin for BodyItem {
+    fn twin(&self, alloc: Global) -> Got<BodyItem> {
+        match self {
+            BodyItem::Chunk(bytes) => match bytes.twin(alloc) {
+                Ok(bytes) => Ok(BodyItem::Chunk(bytes)),
+                Err(no_memory) => Err(no_memory),
+            },
+            BodyItem::Pending => Ok(BodyItem::Pending),
+        }
+    }
+}
+
+/// A scripted response. Its body tells its end exactly where `tells` holds and its items are used up.
+#[derive(Debug, Drop)]
+pub struct Reply {
+    pub status: StatusCode,
+    pub body: BodyItems,
+    pub tells: bool,
+}
+
+impl Model for Reply {
+    ghost use Rattle.life_script.specs.Views.{ReplyView};
+
+    ghost Value = { ReplyView };
+
+    ghost view = { λ r. record { status = r.status; body = r.body.items; tells = r.tells } };
+}
+
+impl Twin for Reply {
+    fn twin(&self, alloc: Global) -> Got<Reply> {
+        let body = self.body.twin_items(alloc)?;
+        Ok(Reply {
+            status: self.status,
+            body,
+            tells: self.tells,
+        })
+    }
+}
+
+/// What the scripted service answers at one poll.
+#[derive(Debug, Drop)]
+pub enum Then {
+    Pending,
+    Respond(Reply),
+}
+
+/// What the scripted service does at one poll.
+#[derive(Debug, Drop)]
+pub struct PollItem {
+    pub then: Then,
+}
+
+/// What the scripted service does, poll by poll.
+pub type PollItems = List<PollItem>;
+
+impl Twin for PollItem {
+    fn twin(&self, alloc: Global) -> Got<PollItem> {
+        let then = match &self.then {
+            Then::Pending => Then::Pending,
+            Then::Respond(reply) => Then::Respond(reply.twin(alloc)?),
+        };
+        Ok(PollItem { then })
+    }
+}
+
+/// The script of one request.
+#[derive(Debug, Drop)]
+pub struct Script {
+    pub polls: PollItems,
+}
+
+impl Model for Script {
+    ghost use Rattle.life_script.specs.ScriptView.{ScriptView};
+
+    ghost Value = { ScriptView };
+
+    ghost view = { λ s. record { polls = s.polls.items } };
+}
+
+impl Twin for Script {
+    fn twin(&self, alloc: Global) -> Got<Script> {
+        let polls = self.polls.twin_items(alloc)?;
+        Ok(Script { polls })
+    }
+}
+
+/// What a client does with a request.
+#[derive(Clone, Copy, Debug)]
+pub enum Act {
+    Call,
+    Poll,
+    Drop,
+}
+
+/// An act at a time, in nanoseconds, with the request of a number.
+#[derive(Clone, Copy, Debug)]
+pub struct Step {
+    pub at: u64,
+    pub request: u64,
+    pub act: Act,
+}
+
+/// Steps in the order in which they are made.
+pub type Steps = List<Step>;
+
+/// The request that is made, the steps and the time of the end, in nanoseconds.
+#[derive(Debug, Drop)]
+pub struct Scenario {
+    pub request: Script,
+    pub steps: Steps,
+    pub end: u64,
+}
+
+impl Model for Scenario {
+    ghost use Rattle.life_script.specs.ScriptView.{ScenarioView};
+
+    ghost Value = { ScenarioView };
+
+    ghost view = { λ s. record { request = s.request; steps = s.steps.items; end = s.end } };
+}
