@@ -38,6 +38,10 @@ abbrev pub spent : {A : Type 0} → Result A NoMemory → Result Unit NoMemory
 spent (Ok a) = Ok tt
 spent (Err e) = Err e
 
+-- it is given up, whatever that answers
+abbrev pub GivenUp : {S : Type 0} → Leaves S → S → Recorded → Moment → Recorded → Type 0
+GivenUp leaves s was m now = (left : Result Unit NoMemory) × leaves s was m left now
+
 -- what is there is given up
 abbrev pub LeavesIfAny : {F : Type 0} → Leaves F → Option F → Recorded → Moment → Result Unit NoMemory → Recorded → Type 0
 LeavesIfAny leaves None was m answer now = (answer ≡ Ok tt) × (now ≡ was)

@@ -1,5 +1,5 @@
 //! Times and lengths, in whole nanoseconds.
-ghost use Rattle.std.specs.Prelude.{◌≡◌};
+ghost use Rattle.std.specs.Prelude.{◌≡◌, ◌≤◌, ℕ, IsTrue, true};
 ghost use Rattle.life_core.specs.Due.{due, since};
 
 /// Started at one time, for some length.
@@ -10,9 +10,11 @@ pub struct Timer {
 }
 
 impl Timer {
+    #[tactic(auto, using(crate::proofs::Due::due_later))]
     /// Whether the length is over. A clock below the start is not due, and length 0 is due at its start.
     pub fn is_due(self, now: u64) -> bool
-        ensures { result ≡ due self.start self.length now }
+        ensures due { result ≡ due self.start self.length now }
+        ensures stays { (later : ℕ) → now ≤ later → IsTrue result → due self.start self.length later ≡ true }
     {
         now >= self.start && now - self.start >= self.length
     }

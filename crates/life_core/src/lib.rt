@@ -30,7 +30,7 @@ pub use latency::{Latency, LatencyUnit};
 pub use list::List;
 pub use log::Log;
 pub use memory::{Calls, MemorySink, MemorySource};
-pub use message::{Request, RequestHead, Response, ResponseHead};
+pub use message::{Request, RequestHead, Response, ResponseHead, give_up_request};
 pub use outside::{Failed, Sink, Source};
 pub use poll::Poll;
 pub use recorder::{NoMemory, Recorder};

@@ -2,8 +2,13 @@
 ghost use Rattle.std.specs.Prelude.{◌≡◌};
 ghost use Rattle.http.specs.Request.{IsNewHead as IsNewRequestHead};
 ghost use Rattle.http.specs.Response.{IsNewHead as IsNewResponseHead};
+ghost use Rattle.life_core.specs.Meaning.{GivenUp};
 ghost use Rattle.life_core.specs.Message.{IsBare};
+ghost use Rattle.life_core.specs.Moment.{moment_of, SameContext};
 
+use crate::context::Cx;
+use crate::recorder::{NoMemory, Recorder};
+use crate::spend::Spend;
 use http::request::Parts as RequestParts;
 use http::response::Parts as ResponseParts;
 use http::{HeaderMap, HeaderValue, Method, StatusCode, Uri, Version};
@@ -94,6 +99,20 @@ impl<B, X> Request<B, X> {
     {
         &self.body
     }
+}
+
+/// Gives up a request that no one will serve, for want of memory: its body is abandoned.
+pub fn give_up_request<B: Spend<L>, X: Drop, L: Recorder>(
+    request: Request<B, X>,
+    cx: &mut Cx<'_, L>,
+) -> NoMemory
+    requires { B.may request.body }
+    ensures left { GivenUp B.leaves request.body (L.recorded cx.old.rec.now) (moment_of cx.old) (L.recorded cx.new.rec.now) }
+    ensures context { SameContext L.place cx.old cx.new }
+{
+    let Request { head: _, body } = request;
+    let _ = body.abandon(cx);
+    NoMemory
 }
 
 /// All of a response but its body.

@@ -1,0 +1,114 @@
+-- How a future or a body answers over its polls: a function of the times of its polls so far, the last one first.
+use Rattle.std.specs.Prelude.{◌≡◌, ℕ, ◌+◌, ◌≤◌, ◌<◌, List, [], ◌∷◌, ◌++◌, length, Bool, Option, Some, None, Result, Ok, Err, ⊤}
+use Rattle.http_body.specs.declared.frame.Frame.{Frame}
+use Rattle.life_core.specs.Meaning.{Polls, Leaves, Frames, Calls}
+use Rattle.life_core.specs.Moment.{Moment}
+use Rattle.life_core.specs.Recorded.{Recorded}
+use Rattle.life_core.specs.declared.event.Event.{Event}
+use Rattle.life_core.specs.declared.message.Response.{Response}
+use Rattle.life_core.specs.declared.message.ResponseHead.{ResponseHead}
+use Rattle.life_core.specs.declared.poll.Poll.{Poll}
+use Rattle.life_core.specs.declared.poll.Poll.TheVariants.{Ready, Pending}
+use Rattle.life_core.specs.declared.recorder.NoMemory.{NoMemory}
+
+-- a time that is at or after all these
+abbrev pub Latest : ℕ → List ℕ → Type 0
+Latest q [] = ⊤
+Latest q (p ∷ past) = (p ≤ q) × Latest q past
+
+-- what a body answers after these polls, what it records, whether it tells its end, and what abandoning it records
+pub record BodyHistory (D E : Type 0) : Type 0 where
+  pub frame : List ℕ → ℕ → Poll (Option (Result (Frame D) E))
+  pub events : List ℕ → ℕ → List Event
+  pub ends : List ℕ → Bool
+  pub left : List ℕ → ℕ → List Event
+
+-- what a future answers: nothing yet, a response by its head and the plan of its body, or an error
+pub data Said (H P X : Type 0) : Type 0 where
+  Waits : Said H P X
+  Gives : H → P → Said H P X
+  Fails : X → Said H P X
+
+-- the same answer, its plan with more in it
+abbrev pub said_under : {H P Q X : Type 0} → (H → P → Q) → Said H P X → Said H Q X
+said_under f Waits = Waits
+said_under f (Gives h p) = Gives h (f h p)
+said_under f (Fails x) = Fails x
+
+-- what a future answers after these polls, what it records, and what abandoning it records
+pub record FutureHistory (H P X : Type 0) : Type 0 where
+  pub says : List ℕ → ℕ → Said H P X
+  pub events : List ℕ → ℕ → List Event
+  pub left : List ℕ → ℕ → List Event
+
+-- where a future is: polled at these times and waiting, or it has answered
+pub data Where : Type 0 where
+  Waiting : List ℕ → Where
+  Answered : Where
+
+abbrev pub where_after : {A : Type 0} → List ℕ → ℕ → Poll A → Where
+where_after past t Pending = Waiting (t ∷ past)
+where_after past t (Ready a) = Answered
+
+abbrev pub left_at : {H P X : Type 0} → FutureHistory H P X → Where → ℕ → List Event
+left_at h (Waiting past) t = h.left past t
+left_at h Answered t = []
+
+-- these events were recorded, which used at most as much room
+pub record Grew (was now : Recorded) (es : List Event) : Type 0 where
+  pub log : now.log ≡ was.log ++ es
+  pub spare : was.spare ≤ now.spare + length es
+  pub rest : now.rest ≡ was.rest
+
+-- the answer is what is said; Heads ties a response's head to what is said of it, Stands its body to its plan
+abbrev pub Matches : {H P B X E : Type 0} → (H → ResponseHead X → Type 0) → (P → B → List ℕ → Type 0) → Said H P E → Poll (Result (Response B X) E) → Type 0
+Matches Heads Stands Waits Pending = ⊤
+Matches Heads Stands (Gives h p) (Ready (Ok r)) = Heads h r.head × Stands p r.body []
+Matches Heads Stands (Fails x) (Ready (Err e)) = e ≡ x
+Matches Heads Stands Waits (Ready a) = ⊥
+Matches Heads Stands (Gives h p) Pending = ⊥
+Matches Heads Stands (Gives h p) (Ready (Err e)) = ⊥
+Matches Heads Stands (Fails x) Pending = ⊥
+Matches Heads Stands (Fails x) (Ready (Ok r)) = ⊥
+
+-- one poll of a body answers and records by its history
+pub record FrameSteps {P B D E : Type 0} (Stands : P → B → List ℕ → Type 0) (h : BodyHistory D E) (p : P) (past : List ℕ)
+    (was : Recorded) (q : ℕ) (a : Poll (Option (Result (Frame D) E))) (new : B) (now : Recorded) : Type 0 where
+  pub answer : a ≡ h.frame past q
+  pub grew : Grew was now (h.events past q)
+  pub stands : Stands p new (q ∷ past)
+
+-- a body of this plan that stands after some polls goes on by the history of the plan
+pub record BodyFollows {P B D E : Type 0} (frames : Frames B D E) (leaves : Leaves B) (ends : B → Bool)
+    (Stands : P → B → List ℕ → Type 0) (history : P → BodyHistory D E) : Type 0 where
+  pub tells : (p : P) (b : B) (past : List ℕ) → Stands p b past → ends b ≡ (history p).ends past
+  pub frame : (p : P) (past : List ℕ) (b : B) (was : Recorded) (m : Moment) (a : Poll (Option (Result (Frame D) E))) (new : B) (now : Recorded) →
+      Latest m.now past → Stands p b past → frames b was m (Ok a) new now → FrameSteps Stands (history p) p past was m.now a new now
+  pub left : (p : P) (past : List ℕ) (b : B) (was : Recorded) (m : Moment) (u : Unit) (now : Recorded) →
+      Stands p b past → leaves b was m (Ok u) now → Grew was now ((history p).left past m.now)
+  pub refused : (p : P) (past : List ℕ) (b : B) (was : Recorded) (m : Moment) (e : NoMemory) (now : Recorded) →
+      Stands p b past → leaves b was m (Err e) now → was.spare < length ((history p).left past m.now)
+
+-- one poll of a future answers and records by its history
+pub record PollSteps {H P F B X E : Type 0} (Heads : H → ResponseHead X → Type 0) (Stands : F → Where → Type 0) (BodyStands : P → B → List ℕ → Type 0) (h : FutureHistory H P E)
+    (past : List ℕ) (was : Recorded) (t : ℕ) (a : Poll (Result (Response B X) E)) (new : F) (now : Recorded) : Type 0 where
+  pub answer : Matches Heads BodyStands (h.says past t) a
+  pub grew : Grew was now (h.events past t)
+  pub stands : Stands new (where_after past t a)
+
+-- a future that stands after some polls goes on by its history
+pub record FutureFollows {H P F B X E : Type 0} (polls : Polls F (Result (Response B X) E)) (leaves : Leaves F) (Heads : H → ResponseHead X → Type 0)
+    (Stands : F → Where → Type 0) (BodyStands : P → B → List ℕ → Type 0) (h : FutureHistory H P E) : Type 0 where
+  pub poll : (past : List ℕ) (f : F) (was : Recorded) (m : Moment) (a : Poll (Result (Response B X) E)) (new : F) (now : Recorded) →
+      Stands f (Waiting past) → polls f was m (Ok a) new now → PollSteps Heads Stands BodyStands h past was m.now a new now
+  pub left : (w : Where) (f : F) (was : Recorded) (m : Moment) (u : Unit) (now : Recorded) →
+      Stands f w → leaves f was m (Ok u) now → Grew was now (left_at h w m.now)
+  pub refused : (w : Where) (f : F) (was : Recorded) (m : Moment) (e : NoMemory) (now : Recorded) →
+      Stands f w → leaves f was m (Err e) now → was.spare < length (left_at h w m.now)
+
+-- a service gives for such a request a future that stands at the time of the call, and serves on as before, also where it is refused
+pub record ServiceFollows {S R F : Type 0} (calls : Calls S R F) (Asks : R → Type 0) (Serves : S → Type 0) (Stands : ℕ → F → Where → Type 0) (events : List Event) : Type 0 where
+  pub call : (s : S) (req : R) (was : Recorded) (m : Moment) (f : F) (new : S) (now : Recorded) →
+      Asks req → Serves s → calls s req was m (Ok f) new now → Serves new × Stands m.now f (Waiting []) × Grew was now events
+  pub refused : (s : S) (req : R) (was : Recorded) (m : Moment) (e : NoMemory) (new : S) (now : Recorded) →
+      Serves s → calls s req was m (Err e) new now → Serves new

@@ -1,0 +1,2 @@
+pub mod DropFollows
+pub mod NoteFollows

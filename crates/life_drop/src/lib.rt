@@ -1,0 +1,4 @@
+//! Hooks that fire where a request is dropped before its end.
+#![tactic(auto)]
+
+pub mod on_early_drop;

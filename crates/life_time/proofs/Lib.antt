@@ -1,0 +1,2 @@
+pub mod DeadlineFollows
+pub mod TimeoutFollows

@@ -1,0 +1,5 @@
+pub mod DeadlineBody
+pub mod DeadlineService
+pub mod Lending
+pub mod Stands
+pub mod Timeout

@@ -1,0 +1,80 @@
+-- What `Timeout` does: its timer first, then the inner future.
+use Rattle.std.specs.Prelude.{◌≡◌, ℕ, true, false, Option, Some, None, Result, Ok, Err, IfOk, IfSome, IsSomeAnd}
+use Rattle.life_core.specs.Due.{due}
+use Rattle.life_core.specs.Meaning.{Polls, Leaves, Readies, Calls, spent, LeavesIfAny, PollsWithin}
+use Rattle.life_core.specs.Message.{IsBare}
+use Rattle.life_core.specs.Moment.{Moment}
+use Rattle.life_core.specs.Recorded.{Recorded}
+use Rattle.life_core.specs.declared.message.Response.{Response}
+use Rattle.life_core.specs.declared.poll.Poll.{Poll}
+use Rattle.life_core.specs.declared.poll.Poll.TheVariants.{Ready, Pending}
+use Rattle.life_core.specs.declared.recorder.NoMemory.{NoMemory}
+use Rattle.life_time.specs.declared.timeout.service.Timeout.{Timeout}
+use Rattle.life_time.specs.declared.timeout.service.ResponseFuture.{ResponseFuture}
+
+abbrev pub IsTimeout : {S : Type 0} → ℕ → ℕ → S → Timeout S → Type 0
+IsTimeout status timeout inner made = made ≡ record { inner = inner; timeout = timeout; status_code = status }
+
+abbrev pub timeout_inner : {S : Type 0} → Timeout S → S
+timeout_inner s = s.inner
+
+abbrev pub TimeoutMay : {S : Type 0} → (S → Type 0) → Timeout S → Type 0
+TimeoutMay may s = may s.inner
+
+abbrev pub TimeoutFutureMay : {F : Type 0} → (F → Type 0) → ResponseFuture F → Type 0
+TimeoutFutureMay may f = IfSome f.inner may
+
+abbrev pub TimeoutFutureLive : {F : Type 0} → (F → Type 0) → ResponseFuture F → Type 0
+TimeoutFutureLive live f = IsSomeAnd f.inner live
+
+-- the inner answer of readiness; the layer's own parts stay
+pub record TimeoutReadies {S E : Type 0} (readies : Readies S E) (old : Timeout S) (was : Recorded) (m : Moment)
+    (answer : Poll (Result Unit E)) (new : Timeout S) (now : Recorded) : Type 0 where
+  pub inner : readies old.inner was m answer new.inner now
+  pub same : new ≡ record old { inner = new.inner }
+
+-- the future holds an inner one, a timer that started now, and the layer's parts
+pub record IsStarted {S F : Type 0} (s : Timeout S) (m : Moment) (inner : F) (f : ResponseFuture F) : Type 0 where
+  pub holds : f.inner ≡ Some inner
+  pub start : f.timer.start ≡ m.now
+  pub length : f.timer.length ≡ s.timeout
+  pub status : f.status_code ≡ s.status_code
+
+-- the inner call, and a future over what it gave
+abbrev pub CallGives : {S R F : Type 0} → Calls S R F → Timeout S → R → Recorded → Moment → Result (ResponseFuture F) NoMemory → S → Recorded → Type 0
+CallGives {F = F} calls old req was m (Ok f) inner now = (given : F) × calls old.inner req was m (Ok given) inner now × IsStarted old m given f
+CallGives calls old req was m (Err e) inner now = calls old.inner req was m (Err e) inner now
+
+pub record TimeoutCalls {S R F : Type 0} (calls : Calls S R F) (old : Timeout S) (req : R) (was : Recorded) (m : Moment)
+    (answer : Result (ResponseFuture F) NoMemory) (new : Timeout S) (now : Recorded) : Type 0 where
+  pub inner : CallGives calls old req was m answer new.inner now
+  pub same : new ≡ record old { inner = new.inner }
+
+abbrev pub TimeoutLeaves : {F : Type 0} → Leaves F → Leaves (ResponseFuture F)
+TimeoutLeaves leaves old was m answer now = LeavesIfAny leaves old.inner was m answer now
+
+-- the status with no headers and a default body
+abbrev pub IsTimedOut : {B X E : Type 0} → (B → Type 0) → (X → Type 0) → ℕ → Poll (Result (Response B X) E) → Type 0
+IsTimedOut is_body is_ext status (Ready (Ok r)) = IsBare is_ext status r.head × is_body r.body
+IsTimedOut is_body is_ext status (Ready (Err e)) = ⊥
+IsTimedOut is_body is_ext status Pending = ⊥
+
+-- the inner future is given up and not polled
+pub record DuePolls {F B X E : Type 0} (leaves : Leaves F) (is_body : B → Type 0) (is_ext : X → Type 0)
+    (old : ResponseFuture F) (was : Recorded) (m : Moment) (answer : Result (Poll (Result (Response B X) E)) NoMemory)
+    (new : ResponseFuture F) (now : Recorded) : Type 0 where
+  pub left : LeavesIfAny leaves old.inner was m (spent answer) now
+  pub reply : IfOk answer (IsTimedOut is_body is_ext old.status_code)
+  pub after : new ≡ record old { inner = None }
+
+-- the inner future is polled
+pub record InnerPolls {F A : Type 0} (polls : Polls F A) (old : ResponseFuture F) (was : Recorded) (m : Moment)
+    (answer : Result (Poll A) NoMemory) (new : ResponseFuture F) (now : Recorded) : Type 0 where
+  pub inner : PollsWithin polls old.inner was m answer new.inner now
+  pub same : new ≡ record old { inner = new.inner }
+
+pub record TimeoutPolls {F B X E : Type 0} (polls : Polls F (Result (Response B X) E)) (leaves : Leaves F)
+    (is_body : B → Type 0) (is_ext : X → Type 0) (old : ResponseFuture F) (was : Recorded) (m : Moment)
+    (answer : Result (Poll (Result (Response B X) E)) NoMemory) (new : ResponseFuture F) (now : Recorded) : Type 0 where
+  pub on_due : due old.timer.start old.timer.length m.now ≡ true → DuePolls leaves is_body is_ext old was m answer new now
+  pub in_time : due old.timer.start old.timer.length m.now ≡ false → InnerPolls polls old was m answer new now

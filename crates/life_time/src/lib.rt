@@ -1,0 +1,4 @@
+//! Layers that look at the clock.
+#![tactic(auto)]
+
+pub mod timeout;
