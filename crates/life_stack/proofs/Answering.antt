@@ -1,0 +1,120 @@
+-- The composed histories give the answers of the table.
+use Rattle.std.proofs.Common.{◌≡◌, ◌≢◌, ℕ, zero, suc, ◌+◌, ◌-◌, ◌<◌, ◌≤◌, List, [], ◌∷◌, ◌++◌, length, get_or, drop, reverse, flat_map, Bool, true, false, Option, Some, None, Ok, Err, Result, IfOk, IfErr, refl, sym, ap, ◌∙◌, subst, arith, length-append, ⊎_elim, append-nil, append_assoc, le-ltb}
+use Rattle.std.specs.Prelude.{slice_get, slice_index, nat_lt, nat_le, if◌then◌else◌, ◌||◌, ◌&&◌, ◌==◌, ⊤}
+use Rattle.std.proofs.lemmas.Bool.{lt-ltb, eq-eqb, ne_eqb}
+use Rattle.std.proofs.lemmas.List.{get_or_at, get_or_append_left}
+use Rattle.http_body.specs.Frame.{data_frame}
+use Rattle.http_body.specs.declared.frame.Frame.{Frame}
+use Rattle.life_core.specs.declared.body.BodyError.{BodyError}
+use Rattle.life_core.specs.declared.body.BodyError.TheVariants.{Elapsed, Inner}
+use Rattle.life_core.specs.declared.poll.Poll.{Poll}
+use Rattle.life_core.specs.declared.poll.Poll.TheVariants.{Ready, Pending}
+use Rattle.life_core.specs.History.{Latest, Said, Waits, Gives, Fails, BodyHistory}
+use Rattle.life_drop.specs.EarlyBody.{is_ending_frame}
+use Rattle.life_drop.specs.Note.{drop_record}
+use Rattle.life_time.specs.Stands.{undue, wrapped}
+use Rattle.life_time.proofs.DeadlineFollows.{undue_all}
+use Rattle.life_core.specs.Due.{due}
+use Rattle.life_core.specs.declared.event.DropKind.{DropKind}
+use Rattle.life_core.specs.declared.event.DropKind.TheVariants as drop_kind
+use Rattle.life_core.specs.declared.event.Event.{Event}
+use Rattle.life_core.specs.declared.event.Event.TheVariants as event
+use Rattle.life_script.specs.ScriptView.{ScriptView}
+use Rattle.life_script.specs.Views.{ReplyView}
+use Rattle.life_script.specs.declared.answer.Answer.{Answer}
+use Rattle.life_script.specs.declared.answer.Answer.TheVariants as ans
+use Rattle.life_script.specs.declared.answer.Seen.TheVariants as seen
+use Rattle.life_script.specs.declared.scenario.Act.{Act}
+use Rattle.life_script.specs.declared.scenario.Act.TheVariants as act
+use Rattle.life_script.specs.declared.scenario.BodyItem.{BodyItem}
+use Rattle.life_script.specs.declared.scenario.BodyItem.TheVariants as body_item
+use Rattle.life_script.specs.declared.scenario.Limits.{Limits}
+use Rattle.life_script.specs.declared.scenario.PollItem.{PollItem}
+use Rattle.life_script.specs.declared.scenario.Then.{Then}
+use Rattle.life_script.specs.declared.scenario.Then.TheVariants as then_
+use Rattle.life_stack.specs.Own.{Own, NotBefore, called_at, after_call, polls_before_drop, first_drop, polls, dropped_at, drop_time}
+use Rattle.life_stack.specs.Story.{next, first_due, later, reply_in, here_or_later, first_reply, earlier, counted, due_reply, head, tells_after, item_answer, body_answer, by_head, poll_answer, on_call, on_poll, on_drop, answer, answers_after, answers, is_ending, any_ending, kind_after, kind_of, drops_at, drops, events_of, turn, turns_after, unless_dropped, at_end, dropped_in}
+use Rattle.life_stack.specs.Driven.{item_says, then_says, timed_body_history, future_history}
+use Rattle.life_stack.specs.Script.{item_frame}
+use Rattle.life_stack.specs.StandsAt.{BodySaid}
+use Rattle.life_stack.proofs.Heads.{head_of, head_more, length_push}
+
+-- what the service says under the timer
+abbrev pub timed_says : Limits → ScriptView → ℕ → ℕ → ℕ → Said ℕ ReplyView (List ℕ)
+timed_says limits script t0 k t = if due t0 limits.timeout t then Gives limits.timeout_status (due_reply limits) else item_says (slice_get script.polls k)
+
+-- a reply comes with its own status
+abbrev pub IsPlain : Said ℕ ReplyView (List ℕ) → Type 0
+IsPlain Waits = Unit
+IsPlain (Gives status r) = status ≡ r.status
+IsPlain (Fails x) = ⊥
+
+pub timed_plain : (limits : Limits) (script : ScriptView) (t0 k t : ℕ) → IsPlain (timed_says limits script t0 k t)
+timed_plain limits script t0 k t = go (due t0 limits.timeout t) (slice_get script.polls k)
+  where
+    by_then : (x : Then) → IsPlain (then_says x)
+    by_then then_.Pending = tt
+    by_then (then_.Respond r) = refl
+
+    go : (b : Bool) (o : Option PollItem) → IsPlain (if b then Gives limits.timeout_status (due_reply limits) else item_says o)
+    go true o = refl
+    go false None = tt
+    go false (Some item) = by_then item.then
+
+pub head_said : (limits : Limits) (script : ScriptView) (t0 : ℕ) (ps : List ℕ) (t : ℕ) → head limits script t0 ps ≡ None →
+    head limits script t0 (ps ++ t ∷ []) ≡ head_of (length ps) (timed_says limits script t0 (length ps) t)
+head_said limits script t0 ps t e = head_more limits script t0 ps t e ∙ go (due t0 limits.timeout t)
+  where
+    go : (b : Bool) → (if b then Some (length ps, due_reply limits) else head_of (length ps) (item_says (slice_get script.polls (length ps))))
+        ≡ head_of (length ps) (if b then Gives limits.timeout_status (due_reply limits) else item_says (slice_get script.polls (length ps)))
+    go true = refl
+    go false = refl
+
+-- at h
+pub answer_at_head : (limits : Limits) (ps : List ℕ) (k : ℕ) (r : ReplyView) → by_head limits ps k (Some (k, r)) ≡ ans.Response r.status (tells_after r 0)
+answer_at_head limits ps k r = rw (le-ltb k k (omega arith), eq-eqb k k refl)
+
+-- above h
+pub answer_above_head : (limits : Limits) (ps : List ℕ) (k h : ℕ) (r : ReplyView) → h < k → by_head limits ps k (Some (h, r)) ≡ body_answer limits r (slice_index ps h) (slice_index ps k) (k - suc h)
+answer_above_head limits ps k h r l = rw (le-ltb k h (omega arith), ne_eqb k h (λ e. omega (arith, l, e)))
+
+pub last_poll : (ps : List ℕ) (t : ℕ) → slice_index (ps ++ t ∷ []) (length ps) ≡ t
+last_poll ps t = get_or_at ps t [] 0 (length ps) refl
+
+pub earlier_poll : (ps : List ℕ) (t h : ℕ) → h < length ps → slice_index (ps ++ t ∷ []) h ≡ slice_index ps h
+earlier_poll ps t h l = get_or_append_left ps (t ∷ []) 0 h l
+
+pub ending_said : (x : Poll (Option (Result (Frame (List ℕ)) (BodyError (List ℕ))))) (e : Bool) (a : Answer) → BodySaid x e a → is_ending a ≡ is_ending_frame x e
+ending_said Pending e a s = ap is_ending s
+ending_said (Ready None) e a s = ap is_ending s
+ending_said (Ready (Some (Ok f))) e a s = ap is_ending s.2
+ending_said (Ready (Some (Err x))) e a s = ap is_ending s
+
+pub body_table : (limits : Limits) (ph : ℕ) (r : ReplyView) (past : List ℕ) (q : ℕ) → Latest q past →
+    BodySaid ((timed_body_history limits (ph, r)).frame past q) ((timed_body_history limits (ph, r)).ends (q ∷ past)) (body_answer limits r ph q (length past))
+body_table limits ph r past q l = go (due ph limits.body_deadline q) refl
+  where
+    by_item : (o : Option BodyItem) → BodySaid (wrapped (item_frame o)) (tells_after r (suc (length past))) (item_answer r (length past) o)
+    by_item None = refl
+    by_item (Some body_item.Pending) = refl
+    by_item (Some (body_item.Chunk bytes)) = (bytes, refl, refl)
+
+    go : (b : Bool) → due ph limits.body_deadline q ≡ b →
+        BodySaid (if b then Ready (Some (Err Elapsed)) else wrapped (item_frame (slice_get r.body (length past)))) (tells_after r (length (if b then undue ph limits.body_deadline past else q ∷ undue ph limits.body_deadline past)))
+        (if b then ans.Fault Elapsed else item_answer r (length past) (slice_get r.body (length past)))
+    go true e = refl
+    go false e = rw (undue_all ph limits.body_deadline q past l e) (by_item (slice_get r.body (length past)))
+
+-- A poll of the future records nothing, and a future that waits leaves one record.
+no_events : (b : Bool) → ◌≡◌ {A = List Event} (if b then [] else []) []
+no_events true = refl
+no_events false = refl
+
+pub future_events : (limits : Limits) (script : ScriptView) (t0 : ℕ) (past : List ℕ) (t : ℕ) → (future_history limits script t0).events past t ≡ []
+future_events limits script t0 past t = no_events (due t0 limits.timeout t)
+
+pub frame_events : (limits : Limits) (ph : ℕ) (reply : ReplyView) (past : List ℕ) (q : ℕ) → (timed_body_history limits (ph, reply)).events past q ≡ []
+frame_events limits ph reply past q = no_events (due ph limits.body_deadline q)
+
+pub future_left : (limits : Limits) (script : ScriptView) (t0 : ℕ) (past : List ℕ) (t : ℕ) → (future_history limits script t0).left past t ≡ drop_record drop_kind.Future (t - t0) ∷ []
+future_left limits script t0 past t = refl

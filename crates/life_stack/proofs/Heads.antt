@@ -1,0 +1,163 @@
+-- The table's least indices, one poll further.
+use lib.Dec.{leb-zero, leb-suc-zero, leb-suc-suc}
+use Rattle.std.proofs.Common.{◌≡◌, ◌≢◌, ℕ, zero, suc, ◌+◌, ◌-◌, ◌<◌, ◌≤◌, List, [], ◌∷◌, ◌++◌, length, get_or, drop, reverse, flat_map, Bool, true, false, Option, Some, None, Ok, Err, Result, IfOk, IfErr, refl, sym, ap, ◌∙◌, subst, arith, length-append, ⊎_elim, append-nil, append_assoc, le-ltb}
+use Rattle.std.specs.Prelude.{slice_get, slice_index, nat_lt, nat_le, if◌then◌else◌, ◌||◌, ◌&&◌, ◌==◌, ⊤}
+use Rattle.std.proofs.lemmas.Bool.{ltb-true, ltb-false, leb-true, leb-false, lt-ltb, le-leb, lt-leb, cases_Bool}
+use Rattle.life_core.specs.Due.{due}
+use Rattle.life_core.specs.declared.event.DropKind.{DropKind}
+use Rattle.life_core.specs.declared.event.DropKind.TheVariants as drop_kind
+use Rattle.life_core.specs.declared.event.Event.{Event}
+use Rattle.life_core.specs.declared.event.Event.TheVariants as event
+use Rattle.life_script.specs.ScriptView.{ScriptView}
+use Rattle.life_script.specs.Views.{ReplyView}
+use Rattle.life_script.specs.declared.answer.Answer.{Answer}
+use Rattle.life_script.specs.declared.answer.Answer.TheVariants as ans
+use Rattle.life_script.specs.declared.answer.Seen.TheVariants as seen
+use Rattle.life_script.specs.declared.scenario.Act.{Act}
+use Rattle.life_script.specs.declared.scenario.Act.TheVariants as act
+use Rattle.life_script.specs.declared.scenario.BodyItem.{BodyItem}
+use Rattle.life_script.specs.declared.scenario.BodyItem.TheVariants as body_item
+use Rattle.life_script.specs.declared.scenario.Limits.{Limits}
+use Rattle.life_script.specs.declared.scenario.PollItem.{PollItem}
+use Rattle.life_script.specs.declared.scenario.Then.{Then}
+use Rattle.life_script.specs.declared.scenario.Then.TheVariants as then_
+use Rattle.life_stack.specs.Own.{Own, NotBefore, called_at, after_call, polls_before_drop, first_drop, polls, dropped_at, drop_time}
+use Rattle.life_stack.specs.Story.{next, first_due, later, reply_in, here_or_later, first_reply, earlier, counted, due_reply, head, tells_after, item_answer, body_answer, by_head, poll_answer, on_call, on_poll, on_drop, answer, answers_after, answers, is_ending, any_ending, kind_after, kind_of, drops_at, drops, events_of, turn, turns_after, unless_dropped, at_end, dropped_in}
+use Rattle.life_core.specs.History.{Said, Waits, Gives, Fails}
+use Rattle.life_stack.specs.Driven.{then_says, item_says}
+
+-- the head that a poll with this index and this answer makes
+abbrev pub head_of : {X : Type 0} → ℕ → Said ℕ ReplyView X → Option (ℕ × ReplyView)
+head_of k Waits = None
+head_of k (Gives status r) = Some (k, r)
+head_of k (Fails x) = None
+
+if_none : Option ℕ → Option ℕ → Option ℕ
+if_none None x = x
+if_none (Some k) x = Some k
+
+first_due-push : (start len : ℕ) (ps : List ℕ) (t : ℕ) → first_due start len (ps ++ t ∷ []) ≡ if_none (first_due start len ps) (if due start len t then Some (length ps) else None)
+unfolding if_none
+first_due-push start len [] t = refl
+first_due-push start len (p ∷ ps) t = go (due start len p) (due start len t) (first_due start len ps) (first_due start len (ps ++ t ∷ [])) (first_due-push start len ps t)
+  where
+    go : (b c : Bool) (o n : Option ℕ) → n ≡ if_none o (if c then Some (length ps) else None) → (if b then Some 0 else next n) ≡ if_none (if b then Some 0 else next o) (if c then Some (suc (length ps)) else None)
+    go true c o n e = refl
+    go false true None n e = ap next e
+    go false false None n e = ap next e
+    go false c (Some k) n e = ap next e
+
+some≢none : {A : Type 0} {x : A} → Some x ≡ None → ⊥
+some≢none e = cc
+
+first_due_below : (start len : ℕ) (ps : List ℕ) (k : ℕ) → first_due start len ps ≡ Some k → k < length ps
+first_due_below start len [] k e = absurd (some≢none (sym e))
+first_due_below start len (p ∷ ps) k e = go (due start len p) (first_due start len ps) (first_due_below start len ps) e
+  where
+    go : (b : Bool) (o : Option ℕ) → ((j : ℕ) → o ≡ Some j → j < length ps) → (if b then Some 0 else next o) ≡ Some k → k < suc (length ps)
+    go true o h e' = let z : 0 ≡ k = cc in omega (arith, z)
+    go false None h e' = absurd (some≢none (sym e'))
+    go false (Some j) h e' = let z : suc j ≡ k = cc in omega (arith, z, h j refl)
+
+counted_below : (n k : ℕ) (r : ReplyView) → k < n → counted n (Some (k, r)) ≡ Some (k, r)
+counted_below n k r l = rw (lt-ltb k n l)
+
+counted_above : (n k : ℕ) (r : ReplyView) → n ≤ k → counted n (Some (k, r)) ≡ None
+counted_above n k r l = rw (le-ltb k n l)
+
+-- where it counts, or does not
+below_of : (n k : ℕ) (r : ReplyView) (x : ℕ × ReplyView) → counted n (Some (k, r)) ≡ Some x → k < n
+below_of n k r x e = ⊎_elim (λ (t : nat_lt k n ≡ true). ltb-true k n t) (λ (f : nat_lt k n ≡ false). absurd (some≢none (sym e ∙ counted_above n k r (ltb-false k n f)))) (cases_Bool (nat_lt k n))
+
+above_of : (n k : ℕ) (r : ReplyView) → counted n (Some (k, r)) ≡ None → n ≤ k
+above_of n k r e = ⊎_elim (λ (t : nat_lt k n ≡ true). absurd (some≢none (sym (counted_below n k r (ltb-true k n t)) ∙ e))) (λ (f : nat_lt k n ≡ false). ltb-false k n f) (cases_Bool (nat_lt k n))
+
+pub counted_kept : (n m : ℕ) (o : Option (ℕ × ReplyView)) (x : ℕ × ReplyView) → n ≤ m → counted n o ≡ Some x → counted m o ≡ Some x
+counted_kept n m None x l e = absurd (some≢none (sym e))
+counted_kept n m (Some (k, r)) x l e = let b = below_of n k r x e in counted_below m k r (omega arith) ∙ sym (counted_below n k r b) ∙ e
+
+counted_earlier_none : (n : ℕ) (u : Option ℕ) (a : Option (ℕ × ReplyView)) (late : ReplyView) → ((k : ℕ) → u ≡ Some k → k < n) → counted n (earlier u a late) ≡ None → (u ≡ None) × (counted n a ≡ None)
+counted_earlier_none n None a late h e = (refl, e)
+counted_earlier_none n (Some k) None late h e = absurd (some≢none (sym (counted_below n k late (h k refl)) ∙ e))
+counted_earlier_none n (Some k) (Some (r, reply)) late h e = absurd (go (nat_le k r) refl)
+  where
+    go : (b : Bool) → nat_le k r ≡ b → ⊥
+    go true t = some≢none (sym (counted_below n k late (h k refl)) ∙ sym (ap (λ b. counted n (if b then Some (k, late) else Some (r, reply))) t) ∙ e)
+    go false f = some≢none (sym (counted_below n r reply (let one = h k refl in let two = leb-false k r f in omega (arith, one, two))) ∙ sym (ap (λ b. counted n (if b then Some (k, late) else Some (r, reply))) f) ∙ e)
+
+-- no due poll so far, and no item that answers below this index
+pub head_none : (limits : Limits) (script : ScriptView) (t0 : ℕ) (ps : List ℕ) → head limits script t0 ps ≡ None →
+    (first_due t0 limits.timeout ps ≡ None) × (counted (length ps) (first_reply script.polls) ≡ None)
+head_none limits script t0 ps e = counted_earlier_none (length ps) (first_due t0 limits.timeout ps) (first_reply script.polls) (due_reply limits) (first_due_below t0 limits.timeout ps) e
+
+counted-later : (m : ℕ) (o : Option (ℕ × ReplyView)) → counted (suc m) (later o) ≡ later (counted m o)
+counted-later m None = refl
+counted-later m (Some (k, r)) = rw (leb-suc-suc (suc k) m) (go (nat_lt k m))
+  where
+    go : (b : Bool) → (if b then Some (suc k, r) else None) ≡ later (if b then Some (k, r) else None)
+    go true = refl
+    go false = refl
+
+later_none : (o : Option (ℕ × ReplyView)) → later o ≡ None → o ≡ None
+later_none None e = refl
+later_none (Some (k, r)) e = absurd (some≢none e)
+
+head_of-later : {X : Type 0} (m : ℕ) (s : Said ℕ ReplyView X) → later (head_of m s) ≡ head_of (suc m) s
+head_of-later m Waits = refl
+head_of-later m (Gives status r) = refl
+head_of-later m (Fails x) = refl
+
+-- what the item at an index says, of a list with this item at its front
+abbrev says_at : ℕ → Then → List PollItem → Said ℕ ReplyView (List ℕ)
+says_at zero t items = then_says t
+says_at (suc n) t items = item_says (slice_get items n)
+
+none_below : (o : Option (ℕ × ReplyView)) → counted zero o ≡ None
+none_below None = refl
+none_below (Some (k, r)) = counted_above 0 k r (omega arith)
+
+reply_step : (n : ℕ) (t : Then) (items : List PollItem) →
+    ((m : ℕ) → counted m (first_reply items) ≡ None → counted (suc m) (first_reply items) ≡ head_of m (item_says (slice_get items m))) →
+    counted n (here_or_later (reply_in t) (first_reply items)) ≡ None → counted (suc n) (here_or_later (reply_in t) (first_reply items)) ≡ head_of n (says_at n t items)
+reply_step zero then_.Pending items ih e = counted-later zero (first_reply items) ∙ ap later (none_below (first_reply items))
+reply_step (suc n) then_.Pending items ih e =
+    counted-later (suc n) (first_reply items)
+    ∙ ap later (ih n (later_none _ (sym (counted-later n (first_reply items)) ∙ e)))
+    ∙ head_of-later n (item_says (slice_get items n))
+reply_step zero (then_.Respond r) items ih e = counted_below 1 0 r (omega arith)
+reply_step (suc n) (then_.Respond r) items ih e = absurd (some≢none (sym (counted_below (suc n) 0 r (omega arith)) ∙ e))
+
+first_reply_at : (n : ℕ) (items : List PollItem) → counted n (first_reply items) ≡ None → counted (suc n) (first_reply items) ≡ head_of n (item_says (slice_get items n))
+first_reply_at n [] e = refl
+first_reply_at zero (item ∷ items) e = reply_step zero item.then items (λ m. first_reply_at m items) e
+first_reply_at (suc n) (item ∷ items) e = reply_step (suc n) item.then items (λ m. first_reply_at m items) e
+
+pub length_push : {A : Type 0} (xs : List A) (x : A) → length (xs ++ x ∷ []) ≡ suc (length xs)
+length_push [] x = refl
+length_push (y ∷ xs) x = ap suc (length_push xs x)
+
+-- the first poll that answers, where none did so far
+pub head_more : (limits : Limits) (script : ScriptView) (t0 : ℕ) (ps : List ℕ) (t : ℕ) → head limits script t0 ps ≡ None →
+    head limits script t0 (ps ++ t ∷ []) ≡ (if due t0 limits.timeout t then Some (length ps, due_reply limits) else head_of (length ps) (item_says (slice_get script.polls (length ps))))
+unfolding if_none
+head_more limits script t0 ps t e = let was = head_none limits script t0 ps e in
+    rw (length_push ps t, first_due-push t0 limits.timeout ps t, was.0) (go (due t0 limits.timeout t) (first_reply script.polls) was.1 (first_reply_at (length ps) script.polls was.1))
+  where
+    go : (b : Bool) (a : Option (ℕ × ReplyView)) → counted (length ps) a ≡ None → counted (suc (length ps)) a ≡ head_of (length ps) (item_says (slice_get script.polls (length ps))) →
+        counted (suc (length ps)) (earlier (if b then Some (length ps) else None) a (due_reply limits)) ≡ (if b then Some (length ps, due_reply limits) else head_of (length ps) (item_says (slice_get script.polls (length ps))))
+    go false a n f = f
+    go true None n f = counted_below (suc (length ps)) (length ps) (due_reply limits) (omega arith)
+    go true (Some (r, reply)) n f = rw (le-leb (length ps) r (above_of (length ps) r reply n)) (counted_below (suc (length ps)) (length ps) (due_reply limits) (omega arith))
+
+earlier_kept : (n : ℕ) (u : Option ℕ) (a : Option (ℕ × ReplyView)) (late : ReplyView) (b : Bool) (x : ℕ × ReplyView) → counted n (earlier u a late) ≡ Some x →
+    counted (suc n) (earlier (if_none u (if b then Some n else None)) a late) ≡ Some x
+unfolding if_none
+earlier_kept n (Some k) a late b x e = counted_kept n (suc n) (earlier (Some k) a late) x (omega arith) e
+earlier_kept n None a late false x e = counted_kept n (suc n) a x (omega arith) e
+earlier_kept n None None late true x e = absurd (some≢none (sym e))
+earlier_kept n None (Some (r, reply)) late true x e = rw (lt-leb n r (below_of n r reply x e)) (counted_kept n (suc n) (Some (r, reply)) x (omega arith) e)
+
+-- once a poll answered, it stays the first
+pub head_kept : (limits : Limits) (script : ScriptView) (t0 : ℕ) (ps : List ℕ) (t : ℕ) (x : ℕ × ReplyView) → head limits script t0 ps ≡ Some x → head limits script t0 (ps ++ t ∷ []) ≡ Some x
+head_kept limits script t0 ps t x e = rw (length_push ps t, first_due-push t0 limits.timeout ps t)
+    (earlier_kept (length ps) (first_due t0 limits.timeout ps) (first_reply script.polls) (due_reply limits) (due t0 limits.timeout t) x e)

@@ -1,0 +1,6 @@
+pub mod Acts
+pub mod Answering
+pub mod DrivenFollows
+pub mod Heads
+pub mod ScriptFollows
+pub mod Steps

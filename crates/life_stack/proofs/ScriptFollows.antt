@@ -1,0 +1,82 @@
+-- The scripted service answers by its items.
+use lib.Dec.{leb-zero, leb-suc-suc}
+use Rattle.std.proofs.Common.{◌≡◌, ℕ, zero, suc, ◌+◌, ◌≤◌, List, [], ◌∷◌, length, drop, Bool, true, false, Option, Some, None, Ok, Err, Result, refl, sym, ap, ◌∙◌, subst, arith}
+use Rattle.std.proofs.lemmas.List.{drop-drop}
+use Rattle.std.specs.Prelude.{◌&&◌, nat_le, slice_get, ⊤}
+use Rattle.life_core.specs.History.{BodyFollows, FrameSteps, FutureFollows, PollSteps, Waits, Where, Waiting, Answered, Matches, where_after, left_at, ServiceFollows}
+use Rattle.life_core.specs.declared.message.Request.{Request}
+use Rattle.life_core.specs.declared.message.Response.{Response}
+use Rattle.life_core.specs.declared.poll.Poll.{Poll}
+use Rattle.life_core.specs.declared.poll.Poll.TheVariants.{Ready, Pending}
+use Rattle.life_core.proofs.Growth.{grew_none}
+use Rattle.life_script.specs.ScriptView.{ScriptView}
+use Rattle.life_script.specs.declared.scenario.BodyItem.{BodyItem}
+use Rattle.life_script.specs.declared.scenario.PollItem.{PollItem}
+use Rattle.life_script.specs.declared.scenario.Then.{Then}
+use Rattle.life_script.specs.declared.scenario.Then.TheVariants as then_
+use Rattle.life_stack.specs.Driven.{Heads, ScriptStands, ScriptBodyStands, item_says, then_says, script_history, script_body_history}
+use Rattle.life_stack.specs.Script.{Answers, IsServiceOf, Responds, ScriptCalls, ScriptFrames, ScriptLeaves, ScriptPolls, item_frame, items_of, tells_end}
+use Rattle.life_stack.specs.declared.script_service.ScriptBody.{ScriptBody}
+use Rattle.life_stack.specs.declared.script_service.ScriptFuture.{ScriptFuture}
+
+-- the first of what is left is the next item
+first_left : {A : Type 0} (xs : List A) (n : ℕ) → slice_get (drop n xs) 0 ≡ slice_get xs n
+first_left [] zero = refl
+first_left [] (suc n) = refl
+first_left (x ∷ xs) zero = refl
+first_left (x ∷ xs) (suc n) = first_left xs n
+
+one_less : {A : Type 0} (xs : List A) (n : ℕ) → drop 1 (drop n xs) ≡ drop (suc n) xs
+one_less xs n = let more : n + 1 ≡ suc n = omega arith in drop-drop 1 n xs ∙ ap (λ k. drop k xs) more
+
+used_up : (k : ℕ) (xs : List BodyItem) → nat_le (length (drop k xs)) 0 ≡ nat_le (length xs) k
+used_up zero xs = refl
+used_up (suc k) [] = leb-zero zero ∙ sym (leb-zero (suc k))
+used_up (suc k) (x ∷ xs) = used_up k xs ∙ sym (leb-suc-suc (length xs) k)
+
+pub script_body_follows : BodyFollows ScriptFrames ScriptLeaves tells_end ScriptBodyStands script_body_history
+script_body_follows = record {
+  tells = λ p b past s. ap (λ x. x && nat_le (length (items_of b)) 0) s.tells ∙ ap (λ l. p.tells && nat_le (length l) 0) s.items ∙ ap (λ e. p.tells && e) (used_up (length past) p.body);
+  frame = λ p past b was m a new now l s f. record {
+    answer = f.0.answer_is ∙ ap (λ l. item_frame (slice_get l 0)) s.items ∙ ap item_frame (first_left p.body (length past));
+    grew = grew_none was now f.1;
+    stands = record { items = f.0.rest ∙ ap (drop 1) s.items ∙ one_less p.body (length past); tells = f.0.tells ∙ s.tells };
+  };
+  left = λ p past b was m u now s f. grew_none was now f.1;
+  refused = λ p past b was m e now s f. absurd (cc f.0);
+}
+
+then_matches : (t : Then) (a : Poll (Result (Response ScriptBody Unit) (List ℕ))) → Answers t a → Matches Heads ScriptBodyStands (then_says t) a
+then_matches then_.Pending a r = subst (λ x. Matches Heads ScriptBodyStands Waits x) (sym r) tt
+then_matches (then_.Respond reply) (Ready (Ok s)) r = (r.head, record { items = r.body.items; tells = r.body.tells })
+then_matches (then_.Respond reply) (Ready (Err e)) r = absurd r
+then_matches (then_.Respond reply) Pending r = absurd r
+
+says : (o : Option PollItem) (a : Poll (Result (Response ScriptBody Unit) (List ℕ))) → Responds o a → Matches Heads ScriptBodyStands (item_says o) a
+says None a r = subst (λ x. Matches Heads ScriptBodyStands Waits x) (sym r) tt
+says (Some item) a r = then_matches item.then a r
+
+stays : (script : ScriptView) (past : List ℕ) (t : ℕ) (new : ScriptFuture) (a : Poll (Result (Response ScriptBody Unit) (List ℕ))) → ScriptStands script new (Waiting (t ∷ past)) → ScriptStands script new (where_after past t a)
+stays script past t new Pending e = e
+stays script past t new (Ready a) e = tt
+
+quiet : (w : Where) (t : ℕ) (script : ScriptView) → left_at (script_history script) w t ≡ []
+quiet (Waiting past) t script = refl
+quiet Answered t script = refl
+
+pub script_follows : (script : ScriptView) → FutureFollows ScriptPolls ScriptLeaves Heads (ScriptStands script) ScriptBodyStands (script_history script)
+script_follows script = record {
+  poll = λ past f was m a new now s p. record {
+    answer = says (slice_get script.polls (length past)) a (subst (λ o. Responds o a) (ap (λ l. slice_get l 0) s ∙ first_left script.polls (length past)) p.0.answer_is);
+    grew = grew_none was now p.1;
+    stands = stays script past m.now new a (p.0.rest ∙ ap (drop 1) s ∙ one_less script.polls (length past));
+  };
+  left = λ w f was m u now s p. rw (quiet w m.now script) (grew_none was now p.1);
+  refused = λ w f was m e now s p. absurd (cc p.0);
+}
+
+pub script_serves : (script : ScriptView) → ServiceFollows {R = Request ScriptBody Unit} ScriptCalls (λ r. Unit) (IsServiceOf script) (λ t. ScriptStands script) []
+script_serves script = record {
+  call = λ s req was m f new now q e c. (ap (λ x. x.script) c.same ∙ e, c.begun ∙ ap (λ (x : ScriptView). x.polls) e, grew_none was now c.unrecorded);
+  refused = λ s req was m e new now k c. ap (λ x. x.script) c.same ∙ k;
+}

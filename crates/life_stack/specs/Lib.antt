@@ -1,0 +1,5 @@
+pub mod Driven
+pub mod Own
+pub mod Script
+pub mod StandsAt
+pub mod Story

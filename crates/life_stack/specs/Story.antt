@@ -1,0 +1,213 @@
+-- The story of one request: what each of its acts answers and records, as a table over the finished list of its acts.
+use Rattle.std.specs.Prelude.{ℕ, suc, ◌-◌, List, [], ◌∷◌, ◌++◌, length, slice_get, slice_index, Bool, true, false, ◌&&◌, ◌||◌, if◌then◌else◌, nat_le, nat_lt, ◌==◌, Option, Some, None, flat_map}
+use Rattle.life_core.specs.Due.{due, since}
+use Rattle.life_core.specs.declared.event.Event.{Event}
+use Rattle.life_core.specs.declared.event.Event.TheVariants as event
+use Rattle.life_core.specs.declared.event.DropKind.{DropKind}
+use Rattle.life_core.specs.declared.event.DropKind.TheVariants as drop_kind
+use Rattle.life_core.specs.declared.latency.LatencyUnit.TheVariants.{Nanos}
+use Rattle.life_core.specs.declared.body.BodyError.{BodyError}
+use Rattle.life_core.specs.declared.body.BodyError.TheVariants.{Elapsed, Inner}
+use Rattle.life_script.specs.ScriptView.{ScriptView}
+use Rattle.life_script.specs.ToldView.{TurnView, ToldView}
+use Rattle.life_script.specs.Views.{ReplyView}
+use Rattle.life_script.specs.declared.answer.Answer.{Answer}
+use Rattle.life_script.specs.declared.answer.Answer.TheVariants as ans
+use Rattle.life_script.specs.declared.answer.Seen.TheVariants as seen
+use Rattle.life_script.specs.declared.scenario.Act.{Act}
+use Rattle.life_script.specs.declared.scenario.Act.TheVariants as act
+use Rattle.life_script.specs.declared.scenario.BodyItem.{BodyItem}
+use Rattle.life_script.specs.declared.scenario.BodyItem.TheVariants as body_item
+use Rattle.life_script.specs.declared.scenario.Limits.{Limits}
+use Rattle.life_script.specs.declared.scenario.PollItem.{PollItem}
+use Rattle.life_script.specs.declared.scenario.Then.{Then}
+use Rattle.life_script.specs.declared.scenario.Then.TheVariants as then_
+use Rattle.life_stack.specs.Own.{Own, called_at, polls, dropped_at}
+
+-- THE HEAD: the first poll that answers otherwise than Pending, and its reply.
+
+-- the least index of a poll at which the timer is due
+abbrev pub next : Option ℕ → Option ℕ
+next None = None
+next (Some k) = Some (suc k)
+
+abbrev pub first_due : ℕ → ℕ → List ℕ → Option ℕ
+first_due start length [] = None
+first_due start length (p ∷ ps) = if due start length p then Some 0 else next (first_due start length ps)
+
+-- the least index of a poll item that responds, with its reply
+abbrev pub later : Option (ℕ × ReplyView) → Option (ℕ × ReplyView)
+later None = None
+later (Some (r, reply)) = Some (suc r, reply)
+
+abbrev pub reply_in : Then → Option ReplyView
+reply_in then_.Pending = None
+reply_in (then_.Respond reply) = Some reply
+
+abbrev pub here_or_later : Option ReplyView → Option (ℕ × ReplyView) → Option (ℕ × ReplyView)
+here_or_later (Some reply) rest = Some (0, reply)
+here_or_later None rest = later rest
+
+abbrev pub first_reply : List PollItem → Option (ℕ × ReplyView)
+first_reply [] = None
+first_reply (item ∷ items) = here_or_later (reply_in item.then) (first_reply items)
+
+-- the lesser of the two; the due case wins a tie
+abbrev pub earlier : Option ℕ → Option (ℕ × ReplyView) → ReplyView → Option (ℕ × ReplyView)
+earlier None ready late = ready
+earlier (Some u) None late = Some (u, late)
+earlier (Some u) (Some (r, reply)) late = if nat_le u r then Some (u, late) else Some (r, reply)
+
+-- it counts only where there is such a poll
+abbrev pub counted : ℕ → Option (ℕ × ReplyView) → Option (ℕ × ReplyView)
+counted n None = None
+counted n (Some (k, reply)) = if nat_lt k n then Some (k, reply) else None
+
+-- what a due poll answers: the timeout's status, and a body without items that tells its end
+abbrev pub due_reply : Limits → ReplyView
+due_reply limits = record { status = limits.timeout_status; body = []; tells = true }
+
+abbrev pub head : Limits → ScriptView → ℕ → List ℕ → Option (ℕ × ReplyView)
+head limits script t0 ps = counted (length ps) (earlier (first_due t0 limits.timeout ps) (first_reply script.polls) (due_reply limits))
+
+-- THE BODY of a reply.
+
+-- whether it tells its end after m items
+abbrev pub tells_after : ReplyView → ℕ → Bool
+tells_after reply m = reply.tells && nat_le (length reply.body) m
+
+-- what item k answers, or none
+abbrev pub item_answer : ReplyView → ℕ → Option BodyItem → Answer
+item_answer reply k None = ans.End
+item_answer reply k (Some body_item.Pending) = ans.Pending
+item_answer reply k (Some (body_item.Chunk bytes)) = ans.Frame (seen.Chunk bytes) (tells_after reply (suc k))
+
+-- the k-th poll of the body, at time q; the response was given at ph
+abbrev pub body_answer : Limits → ReplyView → ℕ → ℕ → ℕ → Answer
+body_answer limits reply ph q k = if due ph limits.body_deadline q then ans.Fault Elapsed else item_answer reply k (slice_get reply.body k)
+
+-- THE ANSWER of each act.
+
+-- poll k, where there is no head, or by its index
+abbrev pub by_head : Limits → List ℕ → ℕ → Option (ℕ × ReplyView) → Answer
+by_head limits ps k None = ans.Pending
+by_head limits ps k (Some (h, reply)) =
+    if nat_lt k h then ans.Pending
+    else (if k == h then ans.Response reply.status (tells_after reply 0)
+    else body_answer limits reply (slice_index ps h) (slice_index ps k) (k - suc h))
+
+abbrev pub poll_answer : Limits → ScriptView → ℕ → List ℕ → ℕ → Answer
+poll_answer limits script t0 ps k = by_head limits ps k (head limits script t0 ps)
+
+-- by the time of the first Call before the act, and of the first Drop after that
+abbrev pub on_call : Option ℕ → Answer
+on_call None = ans.Called
+on_call (Some t0) = ans.Idle
+
+abbrev pub on_poll : Limits → ScriptView → Option ℕ → Option ℕ → List ℕ → ℕ → Answer
+on_poll limits script None d ps k = ans.Idle
+on_poll limits script (Some t0) (Some d) ps k = ans.Idle
+on_poll limits script (Some t0) None ps k = poll_answer limits script t0 ps k
+
+abbrev pub on_drop : Option ℕ → Option ℕ → Answer
+on_drop None d = ans.Idle
+on_drop (Some t0) (Some d) = ans.Idle
+on_drop (Some t0) None = ans.Dropped
+
+-- the answer to an act depends on the acts up to it alone
+abbrev pub answer : Limits → ScriptView → List Own → Own → Answer
+answer limits script before (t, act.Call) = on_call (called_at before)
+answer limits script before (t, act.Poll) = on_poll limits script (called_at before) (dropped_at before) (polls before ++ t ∷ []) (length (polls before))
+answer limits script before (t, act.Drop) = on_drop (called_at before) (dropped_at before)
+
+abbrev pub answers_after : Limits → ScriptView → List Own → List Own → List Answer
+answers_after limits script before [] = []
+answers_after limits script before (x ∷ acts) = answer limits script before x ∷ answers_after limits script (before ++ x ∷ []) acts
+
+abbrev pub answers : Limits → ScriptView → List Own → List Answer
+answers limits script acts = answers_after limits script [] acts
+
+-- EARLY DROPS.
+
+-- the ending answers
+abbrev pub is_ending : Answer → Bool
+is_ending ans.Called = false
+is_ending ans.Idle = false
+is_ending ans.Pending = false
+is_ending (ans.Response status ended) = ended
+is_ending (ans.ServiceError error) = true
+is_ending (ans.Frame frame ended) = ended
+is_ending ans.End = true
+is_ending (ans.Fault fault) = true
+is_ending ans.Dropped = false
+
+abbrev pub any_ending : List Answer → Bool
+any_ending [] = false
+any_ending (a ∷ rest) = is_ending a || any_ending rest
+
+-- what is dropped: a body where a response was answered, with its status; else the future
+abbrev pub kind_after : DropKind → Answer → DropKind
+kind_after what ans.Called = what
+kind_after what ans.Idle = what
+kind_after what ans.Pending = what
+kind_after what (ans.Response status ended) = drop_kind.Body status
+kind_after what (ans.ServiceError error) = what
+kind_after what (ans.Frame frame ended) = what
+kind_after what ans.End = what
+kind_after what (ans.Fault fault) = what
+kind_after what ans.Dropped = what
+
+abbrev pub kind_of : DropKind → List Answer → DropKind
+kind_of what [] = what
+kind_of what (a ∷ rest) = kind_of (kind_after what a) rest
+
+-- none where the request was never called or an ending answer came; else one, d being the time of the drop
+abbrev pub drops_at : Option ℕ → List Answer → ℕ → List Event
+drops_at None given d = []
+drops_at (Some t0) given d = if any_ending given then [] else event.Dropped (kind_of drop_kind.Future given) (record { unit = Nanos; nanos = since t0 d }) ∷ []
+
+abbrev pub drops : Limits → ScriptView → List Own → ℕ → List Event
+drops limits script acts d = drops_at (called_at acts) (answers limits script acts) d
+
+-- THE STORY.
+
+-- what is recorded in the turn of an answer: the early drop stands in the turn of the Drop
+abbrev pub events_of : Answer → List Event → List Event
+events_of ans.Called es = []
+events_of ans.Idle es = []
+events_of ans.Pending es = []
+events_of (ans.Response status ended) es = []
+events_of (ans.ServiceError error) es = []
+events_of (ans.Frame frame ended) es = []
+events_of ans.End es = []
+events_of (ans.Fault fault) es = []
+events_of ans.Dropped es = es
+
+abbrev pub turn : Limits → ScriptView → List Own → Own → TurnView
+turn limits script before x = record {
+  answer = answer limits script before x;
+  events = events_of (answer limits script before x) (drops limits script (before ++ x ∷ []) x.0);
+}
+
+abbrev pub turns_after : Limits → ScriptView → List Own → List Own → List TurnView
+turns_after limits script before [] = []
+turns_after limits script before (x ∷ acts) = turn limits script before x ∷ turns_after limits script (before ++ x ∷ []) acts
+
+-- at the end where no Drop came
+abbrev pub unless_dropped : Option ℕ → List Event → List Event
+unless_dropped None es = es
+unless_dropped (Some d) es = []
+
+abbrev pub at_end : Limits → ScriptView → List Own → ℕ → List Event
+at_end limits script acts end = unless_dropped (dropped_at acts) (drops limits script acts end)
+
+abbrev pub story : Limits → ScriptView → List Own → ℕ → ToldView
+story limits script acts end = record { turns = turns_after limits script [] acts; at_end = at_end limits script acts end }
+
+-- the early-drop records among what was told, in order
+abbrev pub dropped_in : List Event → List Event
+dropped_in [] = []
+dropped_in (event.Dropped what latency ∷ es) = event.Dropped what latency ∷ dropped_in es
+
+abbrev pub drop_records : ToldView → List Event
+drop_records told = flat_map (λ (made : TurnView). dropped_in made.events) told.turns ++ dropped_in told.at_end

@@ -1,0 +1,11 @@
+//! The driven stack over a scripted service, and the program's top call.
+#![tactic(auto)]
+
+mod script_service;
+mod stack;
+
+pub use script_service::{ScriptBody, ScriptFuture, ScriptService};
+pub use stack::{
+    DriveBody, DriveFuture, DriveStack, abandon_body, abandon_future, call_stack, drive_stack,
+    poll_body, poll_future, script_request,
+};
