@@ -6,7 +6,7 @@ use crate::event::{DropKind, Event, Events};
 use crate::list::List;
 use crate::recorder::Recorder;
 use std::alloc::Global;
-use std::marker::PhantomData;
+use std::marker::{Model, PhantomData};
 
 /// A list of events.
 #[derive(Drop)]
@@ -17,10 +17,19 @@ pub struct Log {
     kinds: PhantomData<DropKind>,
 }
 
+impl Model for Log {
+    ghost use Rattle.life_core.specs.Listed.{Listed};
+    ghost use Rattle.life_core.specs.declared.event.Event.{Event as Recordable};
+
+    ghost Value = { Listed Recordable };
+
+    ghost view = { λ l. l.events };
+}
+
 impl Log {
     /// An empty log. It takes no memory.
     pub fn new(alloc: Global) -> Log
-        ensures { result.events.items ≡ [] }
+        ensures { result ≡ record { items = []; spare = 0 } }
     {
         Log {
             alloc,
@@ -31,15 +40,15 @@ impl Log {
 
     /// Takes all events out, and leaves an empty log without room. It takes no memory.
     pub fn take(&mut self) -> Events
-        ensures taken { result ≡ self.old.events }
-        ensures left { self.new.events ≡ record { items = []; spare = 0 } }
+        ensures taken { result ≡ self.old }
+        ensures left { self.new ≡ record { items = []; spare = 0 } }
     {
         std::mem::replace(&mut self.events, List::new(self.alloc))
     }
 }
 
 impl Recorder for Log {
-    ghost recorded = { λ l. record { log = l.events.items; spare = l.events.spare; rest = (0, 0, 0) } };
+    ghost recorded = { λ l. record { log = l.items; spare = l.spare; rest = (0, 0, 0) } };
 
     ghost place = { λ _. [] };
 

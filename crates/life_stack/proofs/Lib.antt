@@ -3,4 +3,5 @@ pub mod Answering
 pub mod DrivenFollows
 pub mod Heads
 pub mod ScriptFollows
+pub mod Shows
 pub mod Steps

@@ -1,4 +1,5 @@
 pub mod Driven
+pub mod LiveAt
 pub mod Own
 pub mod Script
 pub mod StandsAt

@@ -77,11 +77,11 @@ FutureSaid Pending a = a ≡ ans.Pending
 FutureSaid (Ready (Ok r)) a = a ≡ ans.Response r.head.parts.status (drive_ends r.body)
 FutureSaid (Ready (Err e)) a = a ≡ ans.ServiceError e
 
--- what is live after a poll of a future
+-- what is live after a poll of a future; the scripted service never fails
 abbrev pub FutureLeft : Limits → ScriptView → List Own → Poll (Result (Response DriveBody Unit) (List ℕ)) → DriveFuture → Type 0
 FutureLeft limits script acts Pending new = FutureAt limits script acts new
 FutureLeft limits script acts (Ready (Ok r)) new = FutureAnswered limits script acts new × BodyAt limits script acts r.body
-FutureLeft limits script acts (Ready (Err e)) new = FutureAnswered limits script acts new
+FutureLeft limits script acts (Ready (Err e)) new = ⊥
 
 -- a poll at time t gives the table's answer and events, and what is live stands at the longer list
 pub record FuturePolled (limits : Limits) (script : ScriptView) (acts : List Own) (t : ℕ) (was : Recorded)

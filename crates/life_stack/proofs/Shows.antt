@@ -1,0 +1,146 @@
+-- What one act shows, by the table.
+use Rattle.std.proofs.Common.{◌≡◌, ◌≢◌, ℕ, zero, suc, ◌+◌, ◌-◌, ◌<◌, ◌≤◌, List, [], ◌∷◌, ◌++◌, length, get_or, drop, reverse, flat_map, Bool, true, false, Option, Some, None, Ok, Err, Result, IfOk, IfErr, refl, sym, ap, ◌∙◌, subst, arith, length-append, ⊎_elim, append-nil, append_assoc, le-ltb}
+use Rattle.std.specs.Prelude.{slice_get, slice_index, nat_lt, nat_le, if◌then◌else◌, ◌||◌, ◌&&◌, ◌==◌, ⊤}
+use Rattle.http_body.specs.Frame.{data_frame}
+use Rattle.http_body.specs.declared.frame.Frame.{Frame}
+use Rattle.life_core.specs.Recorded.{Recorded}
+use Rattle.life_core.specs.History.{Grew}
+use Rattle.life_core.specs.declared.poll.Poll.TheVariants.{Ready, Pending}
+use Rattle.life_script.specs.declared.answer.Seen.{Seen}
+use Rattle.life_core.specs.Due.{due}
+use Rattle.life_core.specs.declared.event.DropKind.{DropKind}
+use Rattle.life_core.specs.declared.event.DropKind.TheVariants as drop_kind
+use Rattle.life_core.specs.declared.event.Event.{Event}
+use Rattle.life_core.specs.declared.event.Event.TheVariants as event
+use Rattle.life_script.specs.ScriptView.{ScriptView}
+use Rattle.life_script.specs.Views.{ReplyView}
+use Rattle.life_script.specs.declared.answer.Answer.{Answer}
+use Rattle.life_script.specs.declared.answer.Answer.TheVariants as ans
+use Rattle.life_script.specs.declared.answer.Seen.TheVariants as seen
+use Rattle.life_script.specs.declared.scenario.Act.{Act}
+use Rattle.life_script.specs.declared.scenario.Act.TheVariants as act
+use Rattle.life_script.specs.declared.scenario.BodyItem.{BodyItem}
+use Rattle.life_script.specs.declared.scenario.BodyItem.TheVariants as body_item
+use Rattle.life_script.specs.declared.scenario.Limits.{Limits}
+use Rattle.life_script.specs.declared.scenario.PollItem.{PollItem}
+use Rattle.life_script.specs.declared.scenario.Then.{Then}
+use Rattle.life_script.specs.declared.scenario.Then.TheVariants as then_
+use Rattle.life_stack.specs.Own.{Own, NotBefore, called_at, after_call, polls_before_drop, first_drop, polls, dropped_at, drop_time}
+use Rattle.life_stack.specs.Story.{next, first_due, later, reply_in, here_or_later, first_reply, earlier, counted, due_reply, head, tells_after, item_answer, body_answer, by_head, poll_answer, on_call, on_poll, on_drop, answer, answers_after, answers, is_ending, any_ending, kind_after, kind_of, drops_at, drops, events_of, turn, turns_after, unless_dropped, at_end, dropped_in}
+use Rattle.life_stack.specs.Driven.{DriveStack, DriveFuture, DriveBody, StackStands, drive_ends}
+use Rattle.life_stack.specs.LiveAt.{LiveAt, Shown}
+use Rattle.life_stack.specs.StandsAt.{FreshAt, FutureAt, BodyAt, OverAt, FuturePolled, BodyPolled}
+use Rattle.life_stack.specs.declared.live.Live.{Live}
+use Rattle.life_stack.specs.declared.live.Live.TheVariants as live
+use Rattle.life_stack.proofs.Acts.{answers_push, called_kept, poll_uncalled, drop_uncalled, polls_after_call, dropped_after_call, dropped_now, dropped_kept, not_before_push}
+use Rattle.life_stack.proofs.Steps.{any_next, kind_next, or_no}
+
+module _ (limits : Limits) (script : ScriptView) (before : List Own) where
+
+  -- a Drop changes nothing in the early drop of a time
+  drops_pushed : (t d t0 : ℕ) → called_at before ≡ Some t0 → answer limits script before (t, act.Drop) ≡ ans.Dropped → drops limits script (before ++ (t, act.Drop) ∷ []) d ≡ drops limits script before d
+  drops_pushed t d t0 c a =
+      let more = called_kept before (t, act.Drop) t0 c in
+      let ending = any_next limits script before (t, act.Drop) ans.Dropped a ∙ or_no limits script _ in
+      let kind = kind_next limits script before (t, act.Drop) ans.Dropped a in
+      rw (more, c, ending, kind) refl
+
+  dropped_shown : (was now : Recorded) (t t0 : ℕ) (stack : DriveStack) → called_at before ≡ Some t0 → dropped_at before ≡ None → Grew was now (drops limits script before t) →
+      Shown limits script before (t, act.Drop) was stack (live.Over, ans.Dropped) now
+  dropped_shown was now t t0 stack c d g =
+      let a : answer limits script before (t, act.Drop) ≡ ans.Dropped = ap (λ o. on_drop o (dropped_at before)) c ∙ ap (on_drop (Some t0)) d in record {
+        live = record { t0 = t0; d = t; called = called_kept before (t, act.Drop) t0 c; dropped = dropped_now before t0 c t d };
+        answer_is = sym a;
+        log = g.log ∙ ap (λ es. was.log ++ es) (sym (drops_pushed t t t0 c a) ∙ ap (λ x. events_of x (drops limits script (before ++ (t, act.Drop) ∷ []) t)) (sym a));
+      }
+
+  pub future_dropped : (f : DriveFuture) (was now : Recorded) (t : ℕ) (stack : DriveStack) → FutureAt limits script before f → Grew was now (drops limits script before t) →
+      Shown limits script before (t, act.Drop) was stack (live.Over, ans.Dropped) now
+  future_dropped f was now t stack at g = dropped_shown was now t at.t0 stack at.called at.undropped g
+
+  pub body_dropped : (b : DriveBody) (was now : Recorded) (t : ℕ) (stack : DriveStack) → BodyAt limits script before b → Grew was now (drops limits script before t) →
+      Shown limits script before (t, act.Drop) was stack (live.Over, ans.Dropped) now
+  body_dropped b was now t stack at g = dropped_shown was now t at.t0 stack at.called at.undropped g
+
+  -- a chunk
+  pub chunk_shown : (was now : Recorded) (t : ℕ) (stack : DriveStack) (f : Frame (List ℕ)) (new : DriveBody) (held : Seen) (ended : Bool) →
+      BodyPolled limits script before t was (Ready (Some (Ok f))) new now → ended ≡ drive_ends new → ((bytes : List ℕ) → f ≡ data_frame bytes → held ≡ seen.Chunk bytes) →
+      Shown limits script before (t, act.Poll) was stack (live.Body new, ans.Frame held ended) now
+  chunk_shown was now t stack f new held ended p e s = record {
+    live = p.left;
+    answer_is = ap (λ x. ans.Frame x ended) (s p.said.0 p.said.1) ∙ ap (ans.Frame (seen.Chunk p.said.0)) e ∙ sym p.said.2;
+    log = p.grew.log;
+  }
+
+  -- Nothing is done.
+  idle_shown : (was : Recorded) (stack : DriveStack) (x : Own) (l : Live) → answer limits script before x ≡ ans.Idle → LiveAt limits script (before ++ x ∷ []) stack l → Shown limits script before x was stack (l, ans.Idle) was
+  idle_shown was stack x l a at = record {
+    live = at;
+    answer_is = sym a;
+    log = sym (append-nil was.log) ∙ ap (λ y. was.log ++ events_of y (drops limits script (before ++ x ∷ []) x.0)) (sym a);
+  }
+
+  fresh_more : (x : Own) → FreshAt limits script before → answer limits script before x ≡ ans.Idle → called_at (before ++ x ∷ []) ≡ None → FreshAt limits script (before ++ x ∷ [])
+  fresh_more x at a c = record {
+    uncalled = c;
+    no_ending = any_next limits script before x ans.Idle a ∙ or_no limits script _ ∙ at.no_ending;
+    kind = kind_next limits script before x ans.Idle a ∙ at.kind;
+  }
+
+  pub fresh_polled : (was : Recorded) (stack : DriveStack) (t : ℕ) → FreshAt limits script before × StackStands limits script stack → Shown limits script before (t, act.Poll) was stack (live.Fresh, ans.Idle) was
+  fresh_polled was stack t at =
+      let a = ap (λ c. on_poll limits script c (dropped_at before) (polls before ++ t ∷ []) (length (polls before))) (at.0).uncalled in
+      idle_shown was stack (t, act.Poll) live.Fresh a (fresh_more (t, act.Poll) at.0 a (poll_uncalled before t (at.0).uncalled), at.1)
+
+  pub fresh_dropped : (was : Recorded) (stack : DriveStack) (t : ℕ) → FreshAt limits script before × StackStands limits script stack → Shown limits script before (t, act.Drop) was stack (live.Fresh, ans.Idle) was
+  fresh_dropped was stack t at =
+      let a = ap (λ c. on_drop c (dropped_at before)) (at.0).uncalled in
+      idle_shown was stack (t, act.Drop) live.Fresh a (fresh_more (t, act.Drop) at.0 a (drop_uncalled before t (at.0).uncalled), at.1)
+
+  pub future_called : (was : Recorded) (stack : DriveStack) (f : DriveFuture) (t : ℕ) → FutureAt limits script before f → Shown limits script before (t, act.Call) was stack (live.Future f, ans.Idle) was
+  future_called was stack f t at =
+      let a : answer limits script before (t, act.Call) ≡ ans.Idle = ap on_call at.called in
+      let same = polls_after_call before at.t0 at.called t in
+      idle_shown was stack (t, act.Call) (live.Future f) a (record {
+        t0 = at.t0;
+        past = at.past;
+        called = called_kept before (t, act.Call) at.t0 at.called;
+        undropped = dropped_after_call before at.t0 at.called t ∙ at.undropped;
+        past_is = at.past_is ∙ ap reverse (sym same);
+        polled = at.polled ∙ ap length (sym same);
+        unanswered = ap (head limits script at.t0) same ∙ at.unanswered;
+        no_ending = any_next limits script before (t, act.Call) ans.Idle a ∙ or_no limits script _ ∙ at.no_ending;
+        kind = kind_next limits script before (t, act.Call) ans.Idle a ∙ at.kind;
+        stands = at.stands;
+      })
+
+  pub body_called : (was : Recorded) (stack : DriveStack) (b : DriveBody) (t : ℕ) → BodyAt limits script before b → Shown limits script before (t, act.Call) was stack (live.Body b, ans.Idle) was
+  body_called was stack b t at =
+      let a : answer limits script before (t, act.Call) ≡ ans.Idle = ap on_call at.called in
+      let same = polls_after_call before at.t0 at.called t in
+      idle_shown was stack (t, act.Call) (live.Body b) a (record {
+        t0 = at.t0;
+        h = at.h;
+        ph = at.ph;
+        reply = at.reply;
+        past = at.past;
+        called = called_kept before (t, act.Call) at.t0 at.called;
+        undropped = dropped_after_call before at.t0 at.called t ∙ at.undropped;
+        head_is = ap (head limits script at.t0) same ∙ at.head_is;
+        at_head = ap (λ ps. slice_index ps at.h) same ∙ at.at_head;
+        past_is = at.past_is ∙ ap (λ ps. reverse (drop (suc at.h) ps)) (sym same);
+        polled = ap length same ∙ at.polled;
+        latest = λ u n. at.latest u (not_before_push u before (t, act.Call) n).0;
+        kind = kind_next limits script before (t, act.Call) ans.Idle a ∙ at.kind;
+        ending = any_next limits script before (t, act.Call) ans.Idle a ∙ or_no limits script _ ∙ at.ending;
+        stands = at.stands;
+      })
+
+  over_answer : (x : Own) → OverAt before → answer limits script before x ≡ ans.Idle
+  over_answer (t, act.Call) at = ap on_call at.called
+  over_answer (t, act.Poll) at = ap (λ c. on_poll limits script c (dropped_at before) (polls before ++ t ∷ []) (length (polls before))) at.called
+      ∙ ap (λ d. on_poll limits script (Some at.t0) d (polls before ++ t ∷ []) (length (polls before))) at.dropped
+  over_answer (t, act.Drop) at = ap (λ c. on_drop c (dropped_at before)) at.called ∙ ap (on_drop (Some at.t0)) at.dropped
+
+  pub over_idle : (was : Recorded) (stack : DriveStack) (x : Own) → OverAt before → Shown limits script before x was stack (live.Over, ans.Idle) was
+  over_idle was stack x at = idle_shown was stack x live.Over (over_answer x at) (record { t0 = at.t0; d = at.d; called = called_kept before x at.t0 at.called; dropped = dropped_kept before at.t0 at.called x at.d at.dropped })
