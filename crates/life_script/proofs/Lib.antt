@@ -1,0 +1,3 @@
+pub mod CheckLemmas
+pub mod ReadingLemmas
+pub mod ReadingParts

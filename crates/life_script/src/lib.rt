@@ -2,14 +2,20 @@
 #![tactic(auto)]
 
 mod answer;
+mod checks;
 mod error;
+mod reading;
 mod scenario;
+mod texts;
 mod told;
 
 pub use answer::{Answer, Seen};
+pub use checks::check;
 pub use error::{DriveError, ReadError};
+pub use reading::read_scenario;
 pub use scenario::{
     Act, BodyItem, BodyItems, Limits, PollItem, PollItems, Reply, Scenario, Script, Step, Steps,
     Then,
 };
+pub use texts::{TextBuilder, answer_text, event_text};
 pub use told::{Told, Turn, Turns};

@@ -36,7 +36,6 @@ use Rattle.life_stack.proofs.Acts.{answers_push, called_kept, poll_uncalled, dro
 use Rattle.life_stack.proofs.Steps.{any_next, kind_next, or_no}
 
 module _ (limits : Limits) (script : ScriptView) (before : List Own) where
-
   -- a Drop changes nothing in the early drop of a time
   drops_pushed : (t d t0 : ℕ) → called_at before ≡ Some t0 → answer limits script before (t, act.Drop) ≡ ans.Dropped → drops limits script (before ++ (t, act.Drop) ∷ []) d ≡ drops limits script before d
   drops_pushed t d t0 c a =

@@ -1,6 +1,7 @@
 //! The driven stack over a scripted service, and the program's top call.
 #![tactic(auto)]
 
+mod driving;
 mod live;
 mod script_service;
 mod stack;

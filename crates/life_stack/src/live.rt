@@ -8,7 +8,7 @@ ghost use Rattle.life_stack.specs.Driven.{BodyMay, DriveStack as StackView, Futu
 ghost use Rattle.life_stack.specs.LiveAt.{LiveAt, MayGoOn, Shown};
 ghost use Rattle.life_stack.specs.Own.{NotBefore, Own};
 ghost use Rattle.life_stack.specs.StandsAt.{BodyAt, FreshAt, FutureAt};
-ghost use Rattle.life_stack.specs.Story.{at_end};
+ghost use Rattle.life_stack.specs.RanTo.{Ended};
 
 use crate::script_service::ScriptBody;
 use crate::stack::{
@@ -212,7 +212,7 @@ pub(crate) fn act_on(
 pub(crate) fn finish(live: Live, cx: &mut Cx<'_, Log>) -> Got<()>
     requires { MayGoOn live }
     ensures shown { (limits : LimitsView) (script : ScriptView) (acts : List Own) (stack : StackView) → LiveAt limits script acts stack live
-        → IfOk result (λ done. (⟦<Log as Recorder>⟧.recorded cx.new.rec.now).log ≡ (⟦<Log as Recorder>⟧.recorded cx.old.rec.now).log ++ at_end limits script acts cx.old.now) }
+        → IfOk result (λ done. Ended limits script acts cx.old.now (⟦<Log as Recorder>⟧.recorded cx.old.rec.now) (⟦<Log as Recorder>⟧.recorded cx.new.rec.now)) }
     ensures context { SameContext ⟦<Log as Recorder>⟧.place cx.old cx.new }
 {
     match live {

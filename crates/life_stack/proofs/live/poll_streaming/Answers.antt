@@ -5,5 +5,5 @@ pub returns-in-Ok-clause-shown : goal.returns-in-Ok-clause-shown
 returns-in-Ok-clause-shown c = λ limits script acts stack at order.
     let arm = c.in-Ok-Ready-Some-Ok in
     chunk_shown limits script acts _ _ _ stack _ _ _ _
-        (rw (arm.field-0-is, arm.field-0-0-is, arm.field-0-0-0-is) at (arm.ensures.polled limits script acts order at))
-        c.is_end_stream-ended.ensures c.in-Ok.ensures
+    (rw (arm.field-0-is, arm.field-0-0-is, arm.field-0-0-0-is) at (arm.ensures.polled limits script acts order at))
+    c.is_end_stream-ended.ensures c.in-Ok.ensures

@@ -1,0 +1,227 @@
+-- What the bytes of a scenario say.
+use Rattle.std.specs.Prelude.{◌≡◌, ℕ, ◌==◌, ◌&&◌, ◌||◌, List, [], ◌∷◌, Bool, false, cond, codes, bytes_eq, nat_le, is_some, unwrap_or, Option, Some, None, option_map, IsUtf8}
+use Rattle.serde_json.specs.Data.{Data, Items, no_items, item}
+use Rattle.serde_json.specs.Find.{get, as_number, as_u64, as_bool, as_str, as_array}
+use Rattle.serde_json.specs.Read.{read as read_text}
+use Rattle.life_script.specs.declared.scenario.Act.{Act}
+use Rattle.life_script.specs.declared.scenario.Act.TheVariants.{Call, Poll, Drop}
+use Rattle.life_script.specs.declared.scenario.BodyItem.{BodyItem}
+use Rattle.life_script.specs.declared.scenario.BodyItem.TheVariants.{Chunk, Pending as PendingItem}
+use Rattle.life_script.specs.declared.scenario.Limits.{Limits}
+use Rattle.life_script.specs.declared.scenario.PollItem.{PollItem}
+use Rattle.life_script.specs.declared.scenario.Step.{Step}
+use Rattle.life_script.specs.declared.scenario.Then.{Then}
+use Rattle.life_script.specs.declared.scenario.Then.TheVariants.{Pending, Respond}
+use Rattle.life_script.specs.ScriptView.{ScriptView, ScenarioView}
+use Rattle.life_script.specs.Views.{ReplyView}
+
+-- What a part says: it has not the shape, it has the shape with something in it that is not built yet,
+-- or it is good.
+pub data Read (A : Type 0) : Type 0 where
+  Bad : Read A
+  Unbuilt : Read A
+  Good : A → Read A
+
+-- what was read, where none is what is not built yet
+abbrev pub built : {A : Type 0} → Option A → Read A
+built None = Unbuilt
+built (Some a) = Good a
+
+-- ---- parts put together
+
+-- what is found next, where this was found
+infixl 10 ◌>>=◌
+abbrev pub ◌>>=◌ : {A B : Type 0} → Option A → (A → Option B) → Option B
+None >>= f = None
+(Some a) >>= f = f a
+
+-- a value that must be there, and what is read with it
+abbrev pub needs : {A B : Type 0} → Option A → (A → Read B) → Read B
+needs None f = Bad
+needs (Some a) f = f a
+
+-- a good part, made into another
+abbrev pub read_map : {A B : Type 0} → (A → B) → Read A → Read B
+read_map f Bad = Bad
+read_map f Unbuilt = Unbuilt
+read_map f (Good a) = Good (f a)
+
+-- two parts: a bad one beats one that is not built, and that beats a good one
+abbrev pub read_both : {A B C : Type 0} → (A → B → C) → Read A → Read B → Read C
+read_both f Bad b = Bad
+read_both f Unbuilt Bad = Bad
+read_both f Unbuilt Unbuilt = Unbuilt
+read_both f Unbuilt (Good b) = Unbuilt
+read_both f (Good a) b = read_map (f a) b
+
+-- a part beside which something stands that is not built yet, where the test says so
+abbrev pub unbuilt_if : {A : Type 0} → Bool → Read A → Read A
+unbuilt_if b Bad = Bad
+unbuilt_if b Unbuilt = Unbuilt
+unbuilt_if b (Good a) = cond b Unbuilt (Good a)
+
+-- the values of a list, each read by f
+unfoldable pub all_of : {A : Type 0} → (Data → Read A) → List Data → Read (List A)
+all_of f [] = Good []
+all_of f (d ∷ ds) = read_both (λ a xs. a ∷ xs) (f d) (all_of f ds)
+
+-- the one part of a list; another count is not built yet
+abbrev pub only_one : {A : Type 0} → Read (List A) → Read A
+only_one Bad = Bad
+only_one Unbuilt = Unbuilt
+only_one (Good []) = Unbuilt
+only_one (Good (a ∷ [])) = Good a
+only_one (Good (a ∷ b ∷ xs)) = Unbuilt
+
+-- ---- values
+
+-- whether an object has this key
+abbrev pub has : List ℕ → Data → Bool
+has key d = is_some (get key d)
+
+-- a number
+abbrev pub number_of : Data → Option ℕ
+number_of d = as_number d >>= as_u64
+
+-- the number at a key
+abbrev pub number_at : List ℕ → Data → Option ℕ
+number_at key d = get key d >>= number_of
+
+-- a status is a number of three digits
+abbrev pub status_of : ℕ → Option ℕ
+status_of n = cond (nat_le 100 n && nat_le n 999) (Some n) None
+
+-- the status at a key
+abbrev pub status_at : List ℕ → Data → Option ℕ
+status_at key d = number_at key d >>= status_of
+
+-- the items of an array
+abbrev pub list_of : Items → List Data
+list_of no_items = []
+list_of (item d ds) = d ∷ list_of ds
+
+-- the items of the array at a key
+abbrev pub items_at : List ℕ → Data → Option (List Data)
+items_at key d = option_map list_of (get key d >>= as_array)
+
+-- the items of the array at a key, each read by f
+abbrev pub all_at : {A : Type 0} → (Data → Read A) → List ℕ → Data → Read (List A)
+all_at f key d = needs (items_at key d) (all_of f)
+
+-- whether it is this string
+abbrev pub is_string : List ℕ → Data → Bool
+is_string text d = unwrap_or (option_map (λ s. bytes_eq s text) (as_str d)) false
+
+-- ---- the layers
+
+-- how the layers are set
+abbrev pub limits_of : Data → Option Limits
+limits_of d =
+    number_at (codes "timeout") d >>= λ timeout.
+    status_at (codes "timeout_status") d >>= λ status.
+    number_at (codes "body_deadline") d >>= λ deadline.
+    Some (record { timeout = timeout; timeout_status = status; body_deadline = deadline })
+
+-- whether limits have a key that is not built yet
+abbrev pub has_unbuilt_limit : Data → Bool
+has_unbuilt_limit d = has (codes "byte_limit") d || has (codes "gate_name") d || has (codes "gate_value") d || has (codes "classifier") d || has (codes "span_headers") d
+
+-- the limits
+abbrev pub limits_part : Data → Read Limits
+limits_part d = unbuilt_if (has_unbuilt_limit d) (needs (limits_of d) Good)
+
+-- ---- the client
+
+-- what is done with a request
+abbrev pub act_of : List ℕ → Option Act
+act_of text = cond (bytes_eq text (codes "call")) (Some Call) (cond (bytes_eq text (codes "poll")) (Some Poll) (cond (bytes_eq text (codes "drop")) (Some Drop) None))
+
+-- the step of three values: its time, its request and its act
+abbrev pub step_from : List Data → Option Step
+step_from (a ∷ b ∷ c ∷ []) =
+    number_of a >>= λ at.
+    number_of b >>= λ request.
+    as_str c >>= act_of >>= λ act.
+    Some (record { at = at; request = request; act = act })
+step_from _ = None
+
+-- the step that an array is
+abbrev pub step_of : Data → Option Step
+step_of d = as_array d >>= λ ds. step_from (list_of ds)
+
+-- a step
+abbrev pub step_part : Data → Read Step
+step_part d = needs (step_of d) Good
+
+-- ---- the service
+
+-- an item of a body; an object with a key that is not built yet has the shape, whatever stands there
+abbrev pub body_item_part : Data → Read BodyItem
+body_item_part d =
+    cond (has (codes "trailers") d || has (codes "fault") d) Unbuilt (
+    cond (is_string (codes "pending") d) (Good PendingItem) (
+    needs (get (codes "data") d >>= as_str) (λ text. Good (Chunk text))))
+
+-- a response
+abbrev pub reply_part : Data → Read ReplyView
+reply_part d =
+    needs (status_at (codes "status") d) (λ status.
+    needs (get (codes "tells") d >>= as_bool) (λ tells.
+    unbuilt_if (has (codes "headers") d) (
+    read_map (λ body. record { status = status; body = body; tells = tells }) (all_at body_item_part (codes "body") d))))
+
+-- an answer; an object with a key that is not built yet has the shape, whatever stands there
+abbrev pub then_part : Data → Read Then
+then_part d =
+    cond (has (codes "panic") d || has (codes "fail") d) Unbuilt (
+    cond (is_string (codes "pending") d) (Good Pending) (
+    needs (get (codes "respond") d) (λ reply. read_map Respond (reply_part reply))))
+
+-- what is done at one poll
+abbrev pub poll_item_part : Data → Read PollItem
+poll_item_part d =
+    unbuilt_if (has (codes "asks") d) (
+    needs (get (codes "then") d) (λ answer. read_map (λ t. record { then = t }) (then_part answer)))
+
+-- whether a request has a key that is not built yet
+abbrev pub has_unbuilt_request : Data → Bool
+has_unbuilt_request d = has (codes "method") d || has (codes "uri") d || has (codes "headers") d || has (codes "body") d || has (codes "call") d
+
+-- the script of a request
+abbrev pub script_part : Data → Read ScriptView
+script_part d = unbuilt_if (has_unbuilt_request d) (read_map (λ polls. record { polls = polls }) (all_at poll_item_part (codes "polls") d))
+
+-- ---- the whole
+
+-- whether the version is the one that is read
+abbrev pub is_version_1 : Data → Bool
+is_version_1 d = unwrap_or (option_map (λ n. n == 1) (number_at (codes "version") d)) false
+
+-- the script of the one request
+abbrev pub request_part : Data → Read ScriptView
+request_part d = only_one (all_at script_part (codes "requests") d)
+
+-- the script, the steps and the end
+abbrev pub scenario_part : Data → Read ScenarioView
+scenario_part d =
+    needs (number_at (codes "end") d) (λ end.
+    read_both (λ request steps. record { request = request; steps = steps; end = end }) (request_part d) (all_at step_part (codes "steps") d))
+
+-- what the tree of a text says
+abbrev pub shape : Data → Read (Limits × ScenarioView)
+shape d =
+    cond (is_version_1 d) (
+    needs (get (codes "limits") d) (λ limits.
+    read_both (λ l s. (l, s)) (limits_part limits) (scenario_part d))) Bad
+
+-- the bytes say these limits and this scenario
+abbrev pub Reads : List ℕ → Limits → ScenarioView → Type 0
+Reads bytes limits scenario = IsUtf8 bytes × ((d : Data) × (read_text bytes ≡ Some d) × (shape d ≡ Good (limits, scenario)))
+
+-- the bytes are not UTF-8, or have no reading as JSON, or the tree has not the shape
+abbrev pub IsBadScenario : List ℕ → Type 0
+IsBadScenario bytes = IsUtf8 bytes → (d : Data) → read_text bytes ≡ Some d → shape d ≡ Bad
+
+-- the tree has the shape, with something in it that is not built yet
+abbrev pub IsNotBuilt : List ℕ → Type 0
+IsNotBuilt bytes = IsUtf8 bytes × ((d : Data) × (read_text bytes ≡ Some d) × (shape d ≡ Unbuilt))

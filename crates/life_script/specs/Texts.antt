@@ -1,0 +1,71 @@
+-- The exact texts of answers and events.
+use Rattle.std.specs.Prelude.{ℕ, ◌+◌, ◌/◌, ◌%◌, Bool, List, [], ◌∷◌, ◌++◌, codes, decimal, flat_map, nat_lt, nat_le, ◌==◌, ◌&&◌, if◌then◌else◌}
+use Rattle.life_core.specs.Texts.{shown_in}
+use Rattle.life_core.specs.declared.body.BodyError.{BodyError}
+use Rattle.life_core.specs.declared.body.BodyError.TheVariants.{Elapsed, Inner}
+use Rattle.life_core.specs.declared.event.DropKind.{DropKind}
+use Rattle.life_core.specs.declared.event.DropKind.TheVariants.{Future, Body}
+use Rattle.life_core.specs.declared.event.Event.{Event}
+use Rattle.life_core.specs.declared.event.Event.TheVariants.{Dropped as DroppedEarly}
+use Rattle.life_script.specs.declared.answer.Answer.{Answer}
+use Rattle.life_script.specs.declared.answer.Answer.TheVariants.{Called, Idle, Pending, Response, ServiceError, Frame, End, Fault, Dropped}
+use Rattle.life_script.specs.declared.answer.Seen.{Seen}
+use Rattle.life_script.specs.declared.answer.Seen.TheVariants.{Chunk}
+use Rattle.life_script.specs.declared.scenario.Act.{Act}
+use Rattle.life_script.specs.declared.scenario.Act.TheVariants.{Call, Poll, Drop}
+
+-- the lower-case hexadecimal digit of a number below sixteen
+abbrev pub hex_digit : ℕ → ℕ
+hex_digit n = if nat_lt n 10 then 48 + n else 87 + n
+
+-- a printed byte as itself, a quote and a backslash after a backslash, any other byte by two digits
+abbrev pub escaped : ℕ → List ℕ
+escaped byte =
+    if byte == 34 then codes "\\\""
+    else (if byte == 92 then codes "\\\\"
+    else (if nat_le 32 byte && nat_le byte 126 then byte ∷ []
+    else codes "\\x" ++ hex_digit (byte / 16) ∷ hex_digit (byte % 16) ∷ []))
+
+-- bytes between quotes
+abbrev pub shown : List ℕ → List ℕ
+shown bytes = codes "\"" ++ flat_map escaped bytes ++ codes "\""
+
+-- whether a body has ended
+abbrev pub end_text : Bool → List ℕ
+end_text ended = if ended then codes "ended" else codes "open"
+
+-- what a frame held
+abbrev pub seen_text : Seen → List ℕ
+seen_text (Chunk bytes) = codes "data " ++ shown bytes
+
+-- a fault of a body, of which a wrapped body's is shown
+abbrev pub fault_text : BodyError (List ℕ) → List ℕ
+fault_text Elapsed = codes "fault elapsed"
+fault_text (Inner fault) = codes "fault inner " ++ shown fault
+
+-- an answer; a response's headers are not shown yet, and their map stands empty
+abbrev pub answer_text : Answer → List ℕ
+answer_text Called = codes "called"
+answer_text Idle = codes "idle"
+answer_text Pending = codes "pending"
+answer_text (Response status ended) = codes "response " ++ decimal status ++ codes " " ++ end_text ended ++ codes " {}"
+answer_text (ServiceError error) = codes "error " ++ shown error
+answer_text (Frame frame ended) = seen_text frame ++ codes " " ++ end_text ended
+answer_text End = codes "end"
+answer_text (Fault fault) = fault_text fault
+answer_text Dropped = codes "dropped"
+
+-- what was dropped before its end
+abbrev pub kind_text : DropKind → List ℕ
+kind_text Future = codes "future"
+kind_text (Body status) = codes "body " ++ decimal status
+
+-- an event
+abbrev pub event_text : Event → List ℕ
+event_text (DroppedEarly what latency) = codes "dropped " ++ kind_text what ++ codes " latency " ++ shown_in latency.unit latency.nanos
+
+-- what a client does
+abbrev pub act_text : Act → List ℕ
+act_text Call = codes "call"
+act_text Poll = codes "poll"
+act_text Drop = codes "drop"

@@ -1,0 +1,47 @@
+//! Which scenarios are driven.
+ghost use Rattle.std.specs.Prelude.{◌≡◌, None};
+ghost use Rattle.life_script.specs.Valid.{is_back, verdict, verdict_from};
+
+use crate::error::DriveError;
+use crate::scenario::{Scenario, Step};
+
+/// Whether a time is below an earlier one.
+fn is_back(earlier: Option<u64>, now: u64) -> bool
+    ensures { result ≡ is_back earlier now }
+{
+    match earlier {
+        None => false,
+        Some(earlier) => now < earlier,
+    }
+}
+
+/// What is first wrong with steps and the end after them.
+fn check_steps(steps: &[Step], end: u64) -> Result<(), DriveError>
+    ensures { result ≡ verdict_from 0 None steps.now end }
+{
+    let mut earlier = None;
+    for (k, step) in steps.iter().enumerate() {
+        if is_back(earlier, step.at) {
+            return Err(DriveError::ClockBack(k as u64));
+        }
+        if step.request != 0 {
+            return Err(DriveError::NoRequest(k as u64));
+        }
+        earlier = Some(step.at);
+    }
+    if is_back(earlier, end) {
+        return Err(DriveError::ClockBack(steps.len() as u64));
+    }
+    Ok(())
+}
+
+/// What is first wrong with a scenario: a step, or the end, that is earlier than the step before it, or
+/// a step of a request other than the one that there is, of number 0. It takes no memory.
+pub fn check(scenario: &Scenario) -> Result<(), DriveError>
+    ensures { result ≡ verdict scenario.now }
+{
+    check_steps(scenario.steps.as_slice(), scenario.end)
+}
+
+#[cfg(test)]
+mod tests;

@@ -1,0 +1,48 @@
+//! What stands at the keys of an object.
+ghost use Rattle.std.specs.Prelude.{◌≡◌, codes, map, option_map};
+ghost use Rattle.serde_json.specs.View.{view};
+ghost use Rattle.life_script.specs.Reading.{has, number_at, status_at, items_at, is_string};
+
+use http::StatusCode;
+use serde_json::Value;
+
+/// Whether an object has this key.
+pub fn has(value: &Value, key: &str) -> bool
+    ensures { result ≡ has key.now (view value.now) }
+{
+    value.get(key).is_some()
+}
+
+/// The number at a key.
+pub fn number_at(value: &Value, key: &str) -> Option<u64>
+    ensures { result ≡ number_at key.now (view value.now) }
+{
+    value.get(key)?.as_u64()
+}
+
+/// The status at a key.
+pub fn status_at(value: &Value, key: &str) -> Option<StatusCode>
+    ensures { result ≡ status_at key.now (view value.now) }
+{
+    let number = number_at(value, key)?;
+    let number = u16::try_from(number).ok()?;
+    StatusCode::from_u16(number).ok()
+}
+
+/// The items of the array at a key.
+pub fn items_at<'v>(value: &'v Value, key: &str) -> Option<&'v [Value]>
+    ensures { option_map (λ items. map view items.now) result ≡ items_at key.now (view value.now) }
+{
+    let items = value.get(key)?.as_array()?;
+    Some(items.as_slice())
+}
+
+/// Whether it is this string.
+pub fn is_string(value: &Value, text: &str) -> bool
+    ensures { result ≡ is_string text.now (view value.now) }
+{
+    match value.as_str() {
+        Some(found) => found == text,
+        None => false,
+    }
+}
