@@ -1,7 +1,9 @@
 pub mod Acts
 pub mod Answering
 pub mod DrivenFollows
+pub mod Drops
 pub mod Heads
+pub mod ReportLemmas
 pub mod Runs
 pub mod ScriptFollows
 pub mod Shows

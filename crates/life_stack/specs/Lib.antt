@@ -2,6 +2,8 @@ pub mod Driven
 pub mod LiveAt
 pub mod Own
 pub mod RanTo
+pub mod Report
+pub mod ReportView
 pub mod Script
 pub mod StandsAt
 pub mod Story

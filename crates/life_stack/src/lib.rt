@@ -3,9 +3,11 @@
 
 mod driving;
 mod live;
+mod report;
 mod script_service;
 mod stack;
 
+pub use report::{Report, report_text};
 pub use script_service::{ScriptBody, ScriptFuture, ScriptService};
 pub use stack::{
     DriveBody, DriveFuture, DriveStack, abandon_body, abandon_future, call_stack, drive_stack,

@@ -17,6 +17,6 @@ pub returns : goal.returns
 returns c = record {
   shown = λ limits script acts stack at.
       ended_same limits script acts c.args.at _ _ _ c.finish.result
-          (ap (λ l. record { log = l.items; spare = l.spare; rest = (0, 0, 0) }) (c.log-1.given.1 (sym c.finish.ensures.context.recorder)))
-          (c.finish.ensures.shown limits script acts stack at);
+      (ap (λ l. record { log = l.items; spare = l.spare; rest = (0, 0, 0) }) (c.log-1.given.1 (sym c.finish.ensures.context.recorder)))
+      (c.finish.ensures.shown limits script acts stack at);
 }

@@ -1,0 +1,158 @@
+-- The early drops of a whole story are those of the table.
+use Rattle.std.proofs.Common.{◌≡◌, ◌≢◌, ℕ, zero, suc, ◌+◌, ◌-◌, ◌<◌, ◌≤◌, List, [], ◌∷◌, ◌++◌, length, get_or, drop, reverse, flat_map, Bool, true, false, Option, Some, None, Ok, Err, Result, IfOk, IfErr, refl, sym, ap, ◌∙◌, subst, arith, length-append, ⊎_elim, append-nil, append_assoc, le-ltb}
+use Rattle.std.specs.Prelude.{slice_get, slice_index, nat_lt, nat_le, if◌then◌else◌, ◌||◌, ◌&&◌, ◌==◌, ⊤}
+use Rattle.life_core.specs.Due.{due}
+use Rattle.life_core.specs.declared.event.DropKind.{DropKind}
+use Rattle.life_core.specs.declared.event.DropKind.TheVariants as drop_kind
+use Rattle.life_core.specs.declared.event.Event.{Event}
+use Rattle.life_core.specs.declared.event.Event.TheVariants as event
+use Rattle.life_script.specs.ScriptView.{ScriptView}
+use Rattle.life_script.specs.Views.{ReplyView}
+use Rattle.life_script.specs.declared.answer.Answer.{Answer}
+use Rattle.life_script.specs.declared.answer.Answer.TheVariants as ans
+use Rattle.life_script.specs.declared.answer.Seen.TheVariants as seen
+use Rattle.life_script.specs.declared.scenario.Act.{Act}
+use Rattle.life_script.specs.declared.scenario.Act.TheVariants as act
+use Rattle.life_script.specs.declared.scenario.BodyItem.{BodyItem}
+use Rattle.life_script.specs.declared.scenario.BodyItem.TheVariants as body_item
+use Rattle.life_script.specs.declared.scenario.Limits.{Limits}
+use Rattle.life_script.specs.declared.scenario.PollItem.{PollItem}
+use Rattle.life_script.specs.declared.scenario.Then.{Then}
+use Rattle.life_script.specs.declared.scenario.Then.TheVariants as then_
+use Rattle.life_stack.specs.Own.{Own, NotBefore, called_at, after_call, polls_before_drop, first_drop, polls, dropped_at, drop_time}
+use Rattle.life_stack.specs.Story.{next, first_due, later, reply_in, here_or_later, first_reply, earlier, counted, due_reply, head, tells_after, item_answer, body_answer, by_head, poll_answer, on_call, on_poll, on_drop, answer, answers_after, answers, is_ending, any_ending, kind_after, kind_of, drops_at, drops, events_of, turn, turns_after, unless_dropped, at_end, dropped_in, drop_records, story}
+use Rattle.life_core.specs.declared.body.BodyError.TheVariants.{Elapsed}
+use Rattle.life_core.specs.declared.latency.LatencyUnit.TheVariants.{Nanos}
+use Rattle.life_script.specs.ToldView.{TurnView}
+use Rattle.life_stack.proofs.Acts.{called_kept, called_now, after_now, poll_uncalled, drop_uncalled, dropped_after_poll, dropped_after_call, dropped_now, dropped_kept, answers_push, any_ending_push, kind_of_push}
+
+some≢none : {A : Type 0} {x : A} → Some x ≡ None → ⊥
+some≢none e = cc
+
+-- where a Drop counts, there was a Call
+called_where_dropped : (acts : List Own) → called_at acts ≡ None → dropped_at acts ≡ None
+called_where_dropped [] e = refl
+called_where_dropped ((t, act.Call) ∷ acts) e = absurd (some≢none e)
+called_where_dropped ((t, act.Poll) ∷ acts) e = called_where_dropped acts e
+called_where_dropped ((t, act.Drop) ∷ acts) e = called_where_dropped acts e
+
+-- the early drops of the turns from some act on
+abbrev told_drops : Limits → ScriptView → List Own → List Own → List Event
+told_drops limits script before acts = flat_map (λ (made : TurnView). dropped_in made.events) (turns_after limits script before acts)
+
+module _ (limits : Limits) (script : ScriptView) where
+  -- after the Drop all is idle
+  idle_after : (acts : List Own) (x : Own) (t0 d : ℕ) → called_at acts ≡ Some t0 → dropped_at acts ≡ Some d → answer limits script acts x ≡ ans.Idle
+  idle_after acts (t, act.Call) t0 d c e = ap on_call c
+  idle_after acts (t, act.Poll) t0 d c e = rw (c, e)
+  idle_after acts (t, act.Drop) t0 d c e = rw (c, e)
+
+  -- so the records of the acts up to the Drop are those of all
+  drops_kept : (before acts : List Own) (t0 d : ℕ) (t : ℕ) → called_at before ≡ Some t0 → dropped_at before ≡ Some d → drops limits script (before ++ acts) t ≡ drops limits script before t
+  drops_kept before [] t0 d t c e = rw append-nil
+  drops_kept before (x ∷ acts) t0 d t c e =
+      let more = called_kept before x t0 c in let still = dropped_kept before t0 c x d e in
+      ap (λ l. drops limits script l t) (sym (append_assoc before (x ∷ []) acts)) ∙ drops_kept (before ++ x ∷ []) acts t0 d t more still ∙ same
+    where
+      same : drops limits script (before ++ x ∷ []) t ≡ drops limits script before t
+      same = let a = idle_after before x t0 d c e in
+          rw (called_kept before x t0 c, c, answers_push limits script before x, any_ending_push, kind_of_push, a, or_no) refl
+        where
+          or_no : (b : Bool) → (b || false) ≡ b
+          or_no true = refl
+          or_no false = refl
+
+  dropped_all : (before acts : List Own) (t0 d : ℕ) → called_at before ≡ Some t0 → dropped_at before ≡ Some d → dropped_at (before ++ acts) ≡ Some d
+  dropped_all before [] t0 d c e = rw append-nil e
+  dropped_all before (x ∷ acts) t0 d c e = ap dropped_at (sym (append_assoc before (x ∷ []) acts)) ∙ dropped_all (before ++ x ∷ []) acts t0 d (called_kept before x t0 c) (dropped_kept before t0 c x d e)
+
+  item_quiet : (r : ReplyView) (k : ℕ) (o : Option BodyItem) (es : List Event) → events_of (item_answer r k o) es ≡ []
+  item_quiet r k None es = refl
+  item_quiet r k (Some body_item.Pending) es = refl
+  item_quiet r k (Some (body_item.Chunk bytes)) es = refl
+
+  -- a choice of answers without events has none
+  choice_quiet : (b : Bool) (x y : Answer) (es : List Event) → events_of x es ≡ [] → events_of y es ≡ [] → events_of (if b then x else y) es ≡ []
+  choice_quiet true x y es e f = e
+  choice_quiet false x y es e f = f
+
+  poll_quiet : (ps : List ℕ) (k : ℕ) (o : Option (ℕ × ReplyView)) (es : List Event) → events_of (by_head limits ps k o) es ≡ []
+  poll_quiet ps k None es = refl
+  poll_quiet ps k (Some (h, r)) es =
+      choice_quiet (nat_lt k h) ans.Pending _ es refl (choice_quiet (k == h) (ans.Response r.status (tells_after r 0)) _ es refl
+      (choice_quiet (due (slice_index ps h) limits.body_deadline (slice_index ps k)) (ans.Fault Elapsed) _ es refl (item_quiet r (k - suc h) (slice_get r.body (k - suc h)) es)))
+
+  -- an early drop is one
+  drops_at_in : (o : Option ℕ) (given : List Answer) (d : ℕ) → dropped_in (drops_at o given d) ≡ drops_at o given d
+  drops_at_in None given d = refl
+  drops_at_in (Some t0) given d = go (any_ending given)
+    where
+      go : (b : Bool) → dropped_in (if b then [] else event.Dropped (kind_of drop_kind.Future given) (record { unit = Nanos; nanos = d - t0 }) ∷ [])
+          ≡ (if b then [] else event.Dropped (kind_of drop_kind.Future given) (record { unit = Nanos; nanos = d - t0 }) ∷ [])
+      go true = refl
+      go false = refl
+
+  drops_in : (acts : List Own) (d : ℕ) → dropped_in (drops limits script acts d) ≡ drops limits script acts d
+  drops_in acts d = drops_at_in (called_at acts) (answers limits script acts) d
+
+  -- the records from some act on
+  abbrev Records : List Own → List Own → ℕ → Type 0
+  Records before acts end = (told_drops limits script before acts) ++ at_end limits script (before ++ acts) end
+      ≡ unless_dropped (dropped_at before) (drops limits script (before ++ acts) (drop_time (dropped_at (before ++ acts)) end))
+
+  quiet_step : (x : Own) (before acts : List Own) (end : ℕ) → events_of (answer limits script before x) (drops limits script (before ++ x ∷ []) x.0) ≡ [] →
+      dropped_at (before ++ x ∷ []) ≡ dropped_at before → Records (before ++ x ∷ []) acts end → Records before (x ∷ acts) end
+  quiet_step x before acts end q d ih =
+      ap (λ es. es ++ (told_drops limits script (before ++ x ∷ []) acts) ++ at_end limits script (before ++ x ∷ acts) end) (ap dropped_in q)
+      ∙ ap (λ l. (told_drops limits script (before ++ x ∷ []) acts) ++ at_end limits script l end) (sym (append_assoc before (x ∷ []) acts))
+      ∙ ih
+      ∙ ap (λ o. unless_dropped o (drops limits script (before ++ x ∷ [] ++ acts) (drop_time (dropped_at (before ++ x ∷ [] ++ acts)) end))) d
+      ∙ ap (λ l. unless_dropped (dropped_at before) (drops limits script l (drop_time (dropped_at l) end))) (append_assoc before (x ∷ []) acts)
+
+  drop_step : (t : ℕ) (before acts : List Own) (end t0 : ℕ) → called_at before ≡ Some t0 → dropped_at before ≡ None → Records (before ++ (t, act.Drop) ∷ []) acts end → Records before ((t, act.Drop) ∷ acts) end
+  drop_step t before acts end t0 c d ih =
+      let next = before ++ (t, act.Drop) ∷ [] in
+      let now = dropped_now before t0 c t d in
+      let called = called_kept before (t, act.Drop) t0 c in
+      let rest : (told_drops limits script next acts) ++ at_end limits script (next ++ acts) end ≡ [] =
+      ih ∙ ap (λ o. unless_dropped o (drops limits script (next ++ acts) (drop_time (dropped_at (next ++ acts)) end))) now in
+      let joined = append_assoc before ((t, act.Drop) ∷ []) acts in
+      let last = dropped_all next acts t0 t called now in
+      ap (λ es. es ++ (told_drops limits script next acts) ++ at_end limits script (before ++ (t, act.Drop) ∷ acts) end) (ap (λ a. dropped_in (events_of a (drops limits script next t))) (ap (λ o. on_drop o (dropped_at before)) c ∙ ap (on_drop (Some t0)) d) ∙ drops_in next t)
+      ∙ append_assoc (drops limits script next t) _ _
+      ∙ ap (λ l. drops limits script next t ++ ((told_drops limits script next acts) ++ at_end limits script l end)) (sym joined)
+      ∙ ap (λ es. drops limits script next t ++ es) rest
+      ∙ append-nil (drops limits script next t)
+      ∙ sym (drops_kept next acts t0 t t called now)
+      ∙ ap (λ o. drops limits script (next ++ acts) (drop_time o end)) (sym last)
+      ∙ ap (λ l. drops limits script l (drop_time (dropped_at l) end)) joined
+      ∙ ap (λ o. unless_dropped o (drops limits script (before ++ (t, act.Drop) ∷ acts) (drop_time (dropped_at (before ++ (t, act.Drop) ∷ acts)) end))) (sym d)
+
+  step : (x : Own) (before acts : List Own) (end : ℕ) (c d : Option ℕ) → called_at before ≡ c → dropped_at before ≡ d → Records (before ++ x ∷ []) acts end → Records before (x ∷ acts) end
+  step (t, act.Call) before acts end None d c e ih = quiet_step (t, act.Call) before acts end (ap (λ o. events_of (on_call o) (drops limits script (before ++ (t, act.Call) ∷ []) t)) c)
+      (ap first_drop (after_now before t c) ∙ sym (called_where_dropped before c)) ih
+  step (t, act.Poll) before acts end None d c e ih = quiet_step (t, act.Poll) before acts end (rw c)
+      (called_where_dropped (before ++ (t, act.Poll) ∷ []) (poll_uncalled before t c) ∙ sym (called_where_dropped before c)) ih
+  step (t, act.Drop) before acts end None d c e ih = quiet_step (t, act.Drop) before acts end (rw c)
+      (called_where_dropped (before ++ (t, act.Drop) ∷ []) (drop_uncalled before t c) ∙ sym (called_where_dropped before c)) ih
+  step x before acts end (Some t0) (Some d) c e ih = quiet_step x before acts end (ap (λ a. events_of a (drops limits script (before ++ x ∷ []) x.0)) (idle_after before x t0 d c e)) (dropped_kept before t0 c x d e ∙ sym e) ih
+  step (t, act.Call) before acts end (Some t0) None c e ih = quiet_step (t, act.Call) before acts end (ap (λ o. events_of (on_call o) (drops limits script (before ++ (t, act.Call) ∷ []) t)) c) (dropped_after_call before t0 c t) ih
+  step (t, act.Poll) before acts end (Some t0) None c e ih = quiet_step (t, act.Poll) before acts end
+      (rw (c, e) (poll_quiet (polls before ++ t ∷ []) (length (polls before)) (head limits script t0 (polls before ++ t ∷ [])) _)) (dropped_after_poll before t0 c t) ih
+  step (t, act.Drop) before acts end (Some t0) None c e ih = drop_step t before acts end t0 c e ih
+
+  records : (acts before : List Own) (end : ℕ) → Records before acts end
+  records [] before end = rw append-nil (none (dropped_at before))
+    where
+      none : (d : Option ℕ) → unless_dropped d (drops limits script before end) ≡ unless_dropped d (drops limits script before (drop_time d end))
+      none None = refl
+      none (Some d) = refl
+  records (x ∷ acts) before end = step x before acts end (called_at before) (dropped_at before) refl refl (records acts (before ++ x ∷ []) end)
+
+-- the records of a story: none, or one at the Drop or at the end
+pub drops_once : (limits : Limits) (script : ScriptView) (acts : List Own) (end : ℕ) → drop_records (story limits script acts end) ≡ drops limits script acts (drop_time (dropped_at acts) end)
+drops_once limits script acts end = ap (λ es. told_drops limits script [] acts ++ es) (by_drop (dropped_at acts)) ∙ records limits script acts [] end
+  where
+    by_drop : (o : Option ℕ) → dropped_in (unless_dropped o (drops limits script acts end)) ≡ unless_dropped o (drops limits script acts end)
+    by_drop None = drops_in limits script acts end
+    by_drop (Some d) = refl

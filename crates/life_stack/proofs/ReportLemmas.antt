@@ -1,0 +1,166 @@
+-- How the lines of steps and of ends grow, and that each step has its turn.
+use Rattle.std.proofs.Common.{zero, suc, true, ◌≡◌, ℕ, ◌+◌, ◌<◌, ◌≤◌, false, List, [], ◌∷◌, ◌++◌, length, take, drop, get_or, Some, inl, inr, cond, sym, refl, ap, subst, ◌∙◌, arith, add-one, append_assoc, append-nil}
+use Rattle.std.specs.Prelude.{IsSome, slice_get, ◌==◌}
+use Rattle.std.specs.List.{list_all}
+use Rattle.std.proofs.Math.ListN.{set, drop_of_length-le}
+use Rattle.std.proofs.Math.Seq.{drop-cons}
+use Rattle.std.proofs.lemmas.Bool.Decides.{eqb_tells}
+use Rattle.std.proofs.lemmas.Bool.{eq-eqb, eqb-true}
+use Rattle.std.proofs.lemmas.Grind.{get_or_default_zero}
+use Rattle.std.proofs.lemmas.List.{take_more, length-take-le, get_or-set_same, get_or-set_other}
+use Rattle.std.proofs.lemmas.List.Sums.{count_by_more_yes, count_by_more_no, count_by-le-length, sum_by-take-le, sum_by-cons, AllPass-from_list_all}
+use Rattle.std.proofs.lemmas.Option.{slice_get-get_or, slice_get_within, get_or_from_slice_get}
+use Rattle.std.proofs.lemmas.List.Elements.{All-get_or}
+use Rattle.life_script.specs.declared.answer.Answer.TheVariants.{Called}
+use Rattle.life_script.specs.declared.scenario.Step.{Step}
+use Rattle.life_script.specs.ToldView.{ToldView, TurnView}
+use Rattle.life_stack.specs.ReportView.{steps_of, Fits}
+use Rattle.life_stack.specs.Report.{turn_of, turn_lines, step_lines, steps_lines, end_lines, ends_lines}
+
+-- the item of a number and those after it
+drop_next : {T : Type 0} (xs : List T) (k : ℕ) (d : T) → k < length xs → drop k xs ≡ get_or xs k d ∷ drop (k + 1) xs
+drop_next xs k d lt = rw add-one (drop-cons xs k d lt)
+
+-- a text and what comes, where its first part is put at the end of the text
+put_next : (before now part rest all : List ℕ) → now ≡ before ++ part → before ++ (part ++ rest) ≡ all → now ++ rest ≡ all
+put_next before now part rest all put h = ap (λ (l : List ℕ). l ++ rest) put ∙ (append_assoc before part rest ∙ h)
+
+steps_next : (told : List ToldView) (xs : List Step) (k : ℕ) (d : Step) → k < length xs
+    → steps_lines told (take k xs) (drop k xs) ≡ step_lines told (take k xs) (get_or xs k d) ++ steps_lines told (take (k + 1) xs) (drop (k + 1) xs)
+unfolding steps_lines
+steps_next told xs k d lt =
+    ap (λ (l : List Step). steps_lines told (take k xs) l) (drop_next xs k d lt)
+    ∙ ap (λ (l : List Step). step_lines told (take k xs) (get_or xs k d) ++ steps_lines told l (drop (k + 1) xs)) (sym (take_more xs k d lt))
+
+-- the lines of a step that has its turn
+step_of_turn : (told : List ToldView) (xs : List Step) (k n : ℕ) (x : Step) (t : TurnView) → k ≤ length xs → n ≡ steps_of x.request (take k xs) → turn_of told x.request n ≡ Some t
+    → step_lines told (take k xs) x ≡ turn_lines k x t
+step_of_turn told xs k n x t le count turn =
+    let here : turn_of told x.request (steps_of x.request (take k xs)) ≡ Some t = subst (λ (m : ℕ). turn_of told x.request m ≡ Some t) count turn in
+    rw (here, length-take-le k xs le) refl
+
+-- the lines of one step more are put
+pub steps_grown : (told : List ToldView) (xs : List Step) (k n : ℕ) (d : Step) (t : TurnView) (before now all : List ℕ) → k < length xs
+    → n ≡ steps_of (get_or xs k d).request (take k xs) → turn_of told (get_or xs k d).request n ≡ Some t → now ≡ before ++ turn_lines k (get_or xs k d) t
+    → before ++ steps_lines told (take k xs) (drop k xs) ≡ all → now ++ steps_lines told (take (k + 1) xs) (drop (k + 1) xs) ≡ all
+steps_grown told xs k n d t before now all lt count turn put h =
+    put_next before now (step_lines told (take k xs) (get_or xs k d)) (steps_lines told (take (k + 1) xs) (drop (k + 1) xs)) all
+    (put ∙ ap (λ (l : List ℕ). before ++ l) (sym (step_of_turn told xs k n (get_or xs k d) t (omega arith) count turn)))
+    (ap (λ (l : List ℕ). before ++ l) (sym (steps_next told xs k d lt)) ∙ h)
+
+-- the lines of all steps are put
+pub steps_done : (told : List ToldView) (xs : List Step) (k : ℕ) (now all : List ℕ) → length xs ≤ k → now ++ steps_lines told (take k xs) (drop k xs) ≡ all → now ≡ all
+unfolding steps_lines
+steps_done told xs k now all le h =
+    sym (append-nil now) ∙ (sym (ap (λ (l : List Step). now ++ steps_lines told (take k xs) l) (drop_of_length-le xs le)) ∙ h)
+
+-- the steps of a request among the first k + 1, where step k is one of them, and where it is not
+count_same : (xs : List Step) (k : ℕ) (d : Step) → k < length xs → steps_of (get_or xs k d).request (take (k + 1) xs) ≡ steps_of (get_or xs k d).request (take k xs) + 1
+count_same xs k d lt = count_by_more_yes (λ (x : Step). x.request == (get_or xs k d).request) xs k d lt (eq-eqb (get_or xs k d).request (get_or xs k d).request refl)
+
+count_other : (xs : List Step) (k i : ℕ) (d : Step) → k < length xs → ((get_or xs k d).request == i) ≡ false → steps_of i (take (k + 1) xs) ≡ steps_of i (take k xs)
+count_other xs k i d lt other = count_by_more_no (λ (x : Step). x.request == i) xs k d lt other
+
+-- a step is of a request that is told of
+pub told_of : (told : List ToldView) (xs : List Step) (k : ℕ) (d : Step) → Fits told xs → k < length xs → (get_or xs k d).request < length told
+told_of told xs k d fits lt = fits.requests k (get_or xs k d) (slice_get-get_or xs k d lt)
+
+-- the same where the number of requests is known by another name
+pub told_within : (told : List ToldView) (xs : List Step) (k : ℕ) (d : Step) (m n : ℕ) → Fits told xs → k < length xs → n ≡ m → m ≡ length told → (get_or xs k d).request < n
+told_within told xs k d m n fits lt same all = let within = told_of told xs k d fits lt in omega arith
+
+-- fewer steps of its request were made before step k than turns are told of it
+turn_left : (told : List ToldView) (xs : List Step) (k : ℕ) (d : Step) (t : ToldView) → Fits told xs → k < length xs → slice_get told (get_or xs k d).request ≡ Some t
+    → steps_of (get_or xs k d).request (take k xs) < length t.turns
+turn_left told xs k d t fits lt is =
+    let all = fits.turns (get_or xs k d).request t is in
+    let more = count_same xs k d lt in
+    let within : steps_of (get_or xs k d).request (take (k + 1) xs) ≤ steps_of (get_or xs k d).request xs = sum_by-take-le (λ (x : Step). cond (x.request == (get_or xs k d).request) 1 0) xs (k + 1) in
+    omega arith
+
+-- step k has its turn
+pub turn_there : (told : List ToldView) (xs : List Step) (k n : ℕ) (d : Step) → Fits told xs → k < length xs → n ≡ steps_of (get_or xs k d).request (take k xs)
+    → IsSome (turn_of told (get_or xs k d).request n)
+turn_there told xs k n d fits lt count =
+    let t : ToldView = get_or told (get_or xs k d).request (record { turns = []; at_end = [] }) in
+    let is : slice_get told (get_or xs k d).request ≡ Some t = slice_get-get_or told (get_or xs k d).request (record { turns = []; at_end = [] }) (told_of told xs k d fits lt) in
+    let left : n < length t.turns = (let l = turn_left told xs k d t fits lt is in omega arith) in
+    let u = slice_get-get_or t.turns n (record { answer = Called; events = [] }) left in
+    rw (is, u) refl
+
+-- what the count of a step's request is
+pub count_there : (told : List ToldView) (xs : List Step) (k n : ℕ) (d : Step) (made : List ℕ) → Fits told xs → k < length xs → length made ≡ length told
+    → ((i : ℕ) → i < length told → get_or made i 0 ≡ steps_of i (take k xs)) → n ≡ get_or made (get_or xs k d).request n → n ≡ steps_of (get_or xs k d).request (take k xs)
+count_there told xs k n d made fits lt same counted is =
+    let within = told_of told xs k d fits lt in
+    let within_made : (get_or xs k d).request < length made = omega arith in
+    is ∙ (get_or_default_zero made (get_or xs k d).request n within_made ∙ counted (get_or xs k d).request within)
+
+-- at most k of the first k steps are of its request
+pub count_small : (told : List ToldView) (xs : List Step) (k n : ℕ) (d : Step) (made : List ℕ) → Fits told xs → k < length xs → length made ≡ length told
+    → ((i : ℕ) → i < length told → get_or made i 0 ≡ steps_of i (take k xs)) → n ≡ get_or made (get_or xs k d).request n → n ≤ k
+count_small told xs k n d made fits lt same counted is =
+    let here = count_there told xs k n d made fits lt same counted is in
+    let most = count_by-le-length (λ (x : Step). x.request == (get_or xs k d).request) (take k xs) in
+    let all : length (take k xs) ≡ k = length-take-le k xs (omega arith) in
+    omega arith
+
+-- the counts stand for one step more
+pub counted_next : (xs : List Step) (k m n : ℕ) (d : Step) (made : List ℕ) → k < length xs → length made ≡ m
+    → ((i : ℕ) → i < m → get_or made i 0 ≡ steps_of i (take k xs)) → n ≡ steps_of (get_or xs k d).request (take k xs) → (i : ℕ) → i < m
+    → get_or (set made (get_or xs k d).request (n + 1)) i 0 ≡ steps_of i (take (k + 1) xs)
+counted_next xs k m n d made lt same counted count i within =
+    elim (eqb_tells (get_or xs k d).request i) [
+      | inl e ↦
+          let within_made : (get_or xs k d).request < length made = (let f = e.1 in omega arith) in
+          subst (λ (j : ℕ). get_or (set made (get_or xs k d).request (n + 1)) j 0 ≡ steps_of j (take (k + 1) xs)) e.1
+          (get_or-set_same made (get_or xs k d).request (n + 1) 0 within_made ∙ (ap (λ (c : ℕ). c + 1) count ∙ sym (count_same xs k d lt)))
+      | inr e ↦
+          get_or-set_other made (get_or xs k d).request i (n + 1) 0 (λ q. e.1 (sym q)) ∙ (counted i within ∙ sym (count_other xs k i d lt e.0))
+    ]
+
+ends_next : (end : ℕ) (told : List ToldView) (i : ℕ) (d : ToldView) → i < length told
+    → ends_lines end i (drop i told) ≡ end_lines end i (get_or told i d).at_end ++ ends_lines end (i + 1) (drop (i + 1) told)
+unfolding ends_lines
+ends_next end told i d lt = ap (λ (l : List ToldView). ends_lines end i l) (drop_next told i d lt)
+
+-- the lines of one end more are put
+pub ends_grown : (end : ℕ) (told : List ToldView) (i : ℕ) (x : ToldView) (before now all : List ℕ) → i < length told → x ≡ get_or told i x
+    → now ≡ before ++ end_lines end i x.at_end → before ++ ends_lines end i (drop i told) ≡ all → now ++ ends_lines end (i + 1) (drop (i + 1) told) ≡ all
+ends_grown end told i x before now all lt is put h =
+    put_next before now (end_lines end i x.at_end) (ends_lines end (i + 1) (drop (i + 1) told)) all put
+    (ap (λ (y : ToldView). before ++ (end_lines end i y.at_end ++ ends_lines end (i + 1) (drop (i + 1) told))) is
+    ∙ (ap (λ (l : List ℕ). before ++ l) (sym (ends_next end told i x lt)) ∙ h))
+
+-- the lines of all ends are put
+pub ends_done : (end : ℕ) (told : List ToldView) (i : ℕ) (now all : List ℕ) → length told ≤ i → now ++ ends_lines end i (drop i told) ≡ all → now ≡ all
+unfolding ends_lines
+ends_done end told i now all le h =
+    sym (append-nil now) ∙ (sym (ap (λ (l : List ToldView). now ++ ends_lines end i l) (drop_of_length-le told le)) ∙ h)
+
+all_of : (xs : List Step) → ((k : ℕ) (x : Step) → slice_get xs k ≡ Some x → x.request ≡ 0) → steps_of 0 xs ≡ length xs
+all_of [] zeros = refl
+all_of (x ∷ xs) zeros =
+    let first : (x.request == 0) ≡ true = eq-eqb x.request 0 (zeros zero x refl) in
+    let more : steps_of 0 xs ≡ length xs = all_of xs (λ k y is. zeros (suc k) y is) in
+    sum_by-cons (λ (y : Step). cond (y.request == 0) 1 0) x xs ∙ rw (first, more) (omega arith)
+
+one_turns : (t : ToldView) (xs : List Step) → length t.turns ≡ steps_of 0 xs → (i : ℕ) (u : ToldView) → slice_get (t ∷ []) i ≡ Some u → length u.turns ≡ steps_of i xs
+one_turns t xs all zero u is = let here : t ≡ u = cc in subst (λ (v : ToldView). length v.turns ≡ steps_of 0 xs) here all
+one_turns t xs all (suc i) u is = absurd (cc)
+
+-- one request, of which all steps are, with a turn for each
+pub fits_one : (t : ToldView) (xs : List Step) → ((k : ℕ) (x : Step) → slice_get xs k ≡ Some x → x.request ≡ 0) → length t.turns ≡ length xs → Fits (t ∷ []) xs
+fits_one t xs zeros same = record {
+  requests = λ k x is. let zero_is = zeros k x is in omega arith;
+  turns = one_turns t xs (same ∙ sym (all_of xs zeros));
+}
+
+each_first : (xs : List Step) (k : ℕ) (x : Step) → list_all (λ (y : Step). y.request == 0) xs ≡ true → slice_get xs k ≡ Some x → (x.request == 0) ≡ true
+each_first xs k x first is =
+    subst (λ (y : Step). (y.request == 0) ≡ true) (get_or_from_slice_get xs k x x is)
+    (All-get_or (λ (y : Step). (y.request == 0) ≡ true) xs k x (slice_get_within xs k x is) (AllPass-from_list_all (λ (y : Step). y.request == 0) xs first))
+
+-- the same by a test of each step
+pub fits_first : (t : ToldView) (xs : List Step) → list_all (λ (x : Step). x.request == 0) xs ≡ true → length t.turns ≡ length xs → Fits (t ∷ []) xs
+fits_first t xs first same = fits_one t xs (λ k x is. eqb-true x.request 0 (each_first xs k x first is)) same
