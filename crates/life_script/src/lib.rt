@@ -18,4 +18,4 @@ pub use scenario::{
     Then,
 };
 pub use texts::{TextBuilder, answer_text, event_text};
-pub use told::{Told, Turn, Turns};
+pub use told::{Told, ToldList, Turn, Turns};

@@ -129,6 +129,12 @@ pub struct Step {
     pub act: Act,
 }
 
+impl Twin for Step {
+    fn twin(&self, _alloc: Global) -> Got<Step> {
+        Ok(*self)
+    }
+}
+
 /// Steps in the order in which they are made.
 pub type Steps = List<Step>;
 

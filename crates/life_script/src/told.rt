@@ -35,3 +35,6 @@ impl Model for Told {
 
     ghost view = { λ t. record { turns = t.turns.items; at_end = t.at_end.items } };
 }
+
+/// What is told of each request, in the order of their numbers.
+pub type ToldList = List<Told>;

@@ -4,6 +4,7 @@ pub mod DrivenFollows
 pub mod Drops
 pub mod Heads
 pub mod ReportLemmas
+pub mod Reports
 pub mod Runs
 pub mod ScriptFollows
 pub mod Shows

@@ -1,3 +1,4 @@
+pub mod Drive
 pub mod Driven
 pub mod LiveAt
 pub mod Own

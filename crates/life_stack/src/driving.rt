@@ -1,18 +1,22 @@
 //! Drives the steps of a scenario, one after another.
-ghost use Rattle.std.specs.Prelude.{◌≡◌, ◌∷◌, ◌++◌, [], List, IfOk};
+ghost use Rattle.std.specs.Prelude.{◌≡◌, ℕ, ◌∷◌, ◌++◌, [], List, length, slice_get, Some, Err, IfOk, IfErr, IsOk};
 ghost use Rattle.life_script.specs.ScriptView.{ScriptView};
-ghost use Rattle.life_script.specs.Valid.{IsValid};
+ghost use Rattle.life_script.specs.ToldView.{ToldView};
+ghost use Rattle.life_script.specs.Valid.{IsValid, verdict};
+ghost use Rattle.life_script.specs.declared.error.DriveError.TheVariants.{NoMemory as OutOfMemory};
 ghost use Rattle.life_script.specs.declared.scenario.Limits.{Limits as LimitsView};
+ghost use Rattle.life_stack.specs.Drive.{IsRefused, report_of};
 ghost use Rattle.life_stack.specs.Driven.{DriveStack as StackView, StackMay, StackStands};
 ghost use Rattle.life_stack.specs.LiveAt.{LiveAt, MayGoOn, Shown};
-ghost use Rattle.life_stack.specs.Own.{NotBefore, Own, own};
+ghost use Rattle.life_stack.specs.Own.{NotBefore, Own, drop_time, dropped_at, own};
 ghost use Rattle.life_stack.specs.RanTo.{Ended, RanTo, Turned};
-ghost use Rattle.life_stack.specs.Story.{story};
+ghost use Rattle.life_stack.specs.Story.{drop_records, drops, story};
 
 use crate::live::{Live, act_on, finish};
+use crate::report::Report;
 use crate::stack::{DriveStack, drive_stack};
 use life_core::{Cx, Got, Log, NoMemory, Recorder};
-use life_script::{Answer, Limits, Scenario, Step, Told, Turn, Turns};
+use life_script::{Answer, DriveError, Limits, Scenario, Step, Told, ToldList, Turn, Turns, check};
 use std::alloc::Global;
 
 /// One act at its time.
@@ -141,4 +145,37 @@ pub(crate) fn tell(alloc: Global, limits: &Limits, scenario: &Scenario) -> Got<T
         turns,
         at_end: log.take(),
     })
+}
+
+/// The report of a valid scenario.
+fn report_on(alloc: Global, limits: &Limits, scenario: &Scenario) -> Got<Report>
+    requires { IsValid scenario.now }
+    ensures { IfOk result (λ r. r ≡ report_of limits.now scenario.now) }
+{
+    let told = tell(alloc, limits, scenario)?;
+    let steps = scenario.steps.twin_items(alloc)?;
+    let mut all = ToldList::new(alloc);
+    match all.push(told) {
+        Ok(()) => Ok(Report::new(all, steps, scenario.end)),
+        Err(_) => Err(NoMemory),
+    }
+}
+
+/// Drives the one request of a scenario through the stack that its limits give, step by step, and
+/// tells what each step answered and recorded. A scenario that is not valid is refused before any
+/// step is made; the one other error is want of memory. After an error nothing is live.
+pub fn drive(alloc: Global, limits: &Limits, scenario: &Scenario) -> Result<Report, DriveError>
+    ensures told { IfOk result (λ r. r ≡ report_of limits.now scenario.now) }
+    ensures once { IfOk result (λ r. (i : ℕ) (t : ToldView) → slice_get r.told i ≡ Some t
+        → drop_records t ≡ drops limits.now scenario.now.request (own r.steps i) (drop_time (dropped_at (own r.steps i)) r.end)) }
+    ensures valid { IsOk result → IsValid scenario.now }
+    ensures refused { IfErr result (λ e. IsRefused scenario.now e) }
+    ensures exact { IfErr (verdict scenario.now) (λ e. result ≡ Err e) }
+    ensures complete { IsValid scenario.now → IfErr result (λ e. e ≡ OutOfMemory) }
+{
+    check(scenario)?;
+    match report_on(alloc, limits, scenario) {
+        Ok(report) => Ok(report),
+        Err(_) => Err(DriveError::NoMemory),
+    }
 }

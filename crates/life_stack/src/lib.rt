@@ -7,6 +7,7 @@ mod report;
 mod script_service;
 mod stack;
 
+pub use driving::drive;
 pub use report::{Report, report_text};
 pub use script_service::{ScriptBody, ScriptFuture, ScriptService};
 pub use stack::{

@@ -3,8 +3,8 @@ ghost use Rattle.std.specs.Prelude.{◌≡◌, ◌<◌, [], ◌++◌, length, sl
 ghost use Rattle.life_stack.specs.ReportView.{Fits};
 ghost use Rattle.life_stack.specs.Report.{event_lines, turn_of, turn_lines, steps_lines, end_lines, ends_lines, total_line, report_text};
 
-use life_core::{Event, Got, List, Octets};
-use life_script::{Step, Steps, TextBuilder, Told, Turn};
+use life_core::{Event, Got, Octets};
+use life_script::{Step, Steps, TextBuilder, Told, ToldList, Turn};
 use std::alloc::Global;
 use std::marker::Model;
 
@@ -12,7 +12,7 @@ use std::marker::Model;
 /// Each step is of a request that is told of, and each request has one turn for each of its steps.
 #[derive(Debug, Drop)]
 pub struct Report {
-    told: List<Told>,
+    told: ToldList,
     steps: Steps,
     end: u64,
 }
@@ -29,7 +29,7 @@ impl Model for Report {
 
 impl Report {
     /// The report of these.
-    pub(crate) fn new(told: List<Told>, steps: Steps, end: u64) -> Report
+    pub(crate) fn new(told: ToldList, steps: Steps, end: u64) -> Report
         requires { Fits told.items steps.items }
         ensures { result ≡ record { told = told.items; steps = steps.items; end = end } }
     {
