@@ -2,7 +2,9 @@ pub mod Acts
 pub mod Answering
 pub mod DrivenFollows
 pub mod Drops
+pub mod Endings
 pub mod Heads
+pub mod Pieces
 pub mod ReportLemmas
 pub mod Reports
 pub mod Runs

@@ -1,10 +1,17 @@
 pub mod Drive
 pub mod Driven
+pub mod Due
+pub mod Intake
+pub mod Lines
 pub mod LiveAt
 pub mod Own
 pub mod RanTo
 pub mod Report
 pub mod ReportView
+pub mod Run
 pub mod Script
 pub mod StandsAt
+pub mod Status
 pub mod Story
+pub mod Words
+pub mod Writing
