@@ -1,5 +1,5 @@
 -- How a future or a body answers over its polls: a function of the times of its polls so far, the last one first.
-use Rattle.std.specs.Prelude.{◌≡◌, ℕ, ◌+◌, ◌≤◌, ◌<◌, List, [], ◌∷◌, ◌++◌, length, Bool, Option, Some, None, Result, Ok, Err, ⊤}
+use Rattle.std.specs.Prelude.{◌≡◌, ℕ, ◌+◌, ◌≤◌, ◌<◌, List, [], ◌∷◌, ◌++◌, length, Bool, Option, Result, Ok, Err, ⊤}
 use Rattle.http_body.specs.declared.frame.Frame.{Frame}
 use Rattle.life_core.specs.Meaning.{Polls, Leaves, Frames, Calls}
 use Rattle.life_core.specs.Moment.{Moment}

@@ -1,4 +1,4 @@
-use Rattle.std.specs.Prelude.{◌≡◌, ℕ, Option, Some, None, Result, Ok, Err, ⊤}
+use Rattle.std.specs.Prelude.{◌≡◌, Option, Some, None, Result, Ok, Err, ⊤}
 use Rattle.http_body.specs.declared.frame.Frame.{Frame}
 use Rattle.life_core.specs.declared.message.Response.{Response}
 use Rattle.life_core.specs.declared.body.BodyError.{BodyError}

@@ -1,6 +1,5 @@
-use Rattle.std.specs.Prelude.{◌≡◌, ℕ, List, Option, Some, None}
+use Rattle.std.specs.Prelude.{◌≡◌, ℕ, List, Option}
 use base.Fml.{GName}
-use Rattle.std.specs.Option.{option_copied}
 use Rattle.life_core.specs.declared.span.Span.{Span}
 use Rattle.life_core.specs.declared.context.Cx.{Cx}
 

@@ -13,17 +13,17 @@ use Rattle.life_core.specs.declared.message.ResponseHead.{ResponseHead}
 use Rattle.life_core.specs.declared.poll.Poll.{Poll}
 use Rattle.life_core.specs.declared.poll.Poll.TheVariants.{Ready, Pending}
 use Rattle.life_core.specs.declared.recorder.NoMemory.{NoMemory}
-use Rattle.life_core.specs.History.{Latest, Grew, BodyHistory, BodyFollows, FrameSteps, FutureHistory, FutureFollows, PollSteps, Said, Waits, Gives, Fails, Where, Waiting, Answered, Matches, where_after, left_at, said_under, ServiceFollows}
+use Rattle.life_core.specs.History.{Latest, Grew, BodyHistory, BodyFollows, FrameSteps, FutureHistory, FutureFollows, PollSteps, Said, Waits, Gives, Fails, Where, Waiting, Answered, Matches, left_at, said_under, ServiceFollows}
 use Rattle.life_core.proofs.Growth.{grew_none, grew_then}
 use Rattle.life_drop.specs.declared.on_early_drop.guard.OnEarlyDropGuard.{OnEarlyDropGuard}
 use Rattle.life_drop.specs.declared.on_early_drop.body.OnEarlyDropBody.{OnEarlyDropBody}
 use Rattle.life_drop.specs.declared.on_early_drop.future.OnEarlyDropFuture.{OnEarlyDropFuture}
 use Rattle.life_drop.specs.Guard.{Drops, FiresIf, Fires, callback_of}
-use Rattle.life_drop.specs.EarlyBody.{LeavesThenFires, EarlyBodyLeaves, EarlyFrames, early_ends, is_ending, is_ending_frame}
-use Rattle.life_drop.specs.EarlyFuture.{Responds, Asks, Gives as Given, Refuses, EarlyPolls, EarlyLeaves}
-use Rattle.life_drop.specs.EarlyService.{Makes, EarlyCalls, FutureHookRefuses, BodyHookRefuses, InnerRefuses}
+use Rattle.life_drop.specs.EarlyBody.{LeavesThenFires, EarlyBodyLeaves, EarlyFrames, early_ends, is_ending_frame}
+use Rattle.life_drop.specs.EarlyFuture.{Responds, EarlyPolls, EarlyLeaves}
+use Rattle.life_drop.specs.EarlyService.{Makes, EarlyCalls}
 use Rattle.life_drop.specs.declared.on_early_drop.service.OnEarlyDropService.{OnEarlyDropService}
-use Rattle.life_drop.specs.Stands.{DropStands, BegunIs, drop_history, DropBodyStands, drop_body_history, DropServes, future_guard, ended, unless_ended}
+use Rattle.life_drop.specs.Stands.{DropStands, drop_history, DropBodyStands, drop_body_history, DropServes, future_guard, ended, unless_ended}
 
 -- what a callback records where it is called
 pub record CallbackFollows {C : Type 0} (drops : Drops C) (fired : C → ℕ → List Event) : Type 0 where
@@ -36,7 +36,6 @@ fires fired None t = []
 fires fired (Some c) t = fired c t
 
 module _ {C : Type 0} (drops : Drops C) (fired : C → ℕ → List Event) (hook : CallbackFollows drops fired) where
-
   fires_grew : (g : Option C) (was : Recorded) (t : ℕ) (u : Unit) (now : Recorded) → FiresIf drops g t was (Ok u) now → Grew was now (fires fired g t)
   fires_grew None was t u now f = grew_none was now f.1
   fires_grew (Some c) was t u now f = hook.records c was t u now f
@@ -74,7 +73,6 @@ module _ {G P F B D E X T H I C K : Type 0} (Q : Type 0) (polls : Polls F (Resul
     (responds : Responds H I X K) (begun : I) (given : G → K) (hook : RespondFollows Heads responds begun given)
     (drops : Drops C) (callback : C) (fired : C → ℕ → List Event) (callbacks : CallbackFollows drops fired)
     (inner : FutureFollows polls leaves Heads Stands BodyStands h) (body : BodyFollows frames body_leaves ends BodyStands hb) where
-
   abbrev BS : G × P → OnEarlyDropBody B K → List ℕ → Type 0
   BS = DropBodyStands given hb BodyStands
 
@@ -144,7 +142,6 @@ module _ {G P F B D E X T H I C K : Type 0} (Q : Type 0) (polls : Polls F (Resul
 module _ {G P B D E K : Type 0} (frames : Frames B D E) (body_leaves : Leaves B) (ends : B → Bool)
     (BodyStands : P → B → List ℕ → Type 0) (hb : P → BodyHistory D E) (given : G → K) (drops : Drops K) (fired : K → ℕ → List Event) (callbacks : CallbackFollows drops fired)
     (body : BodyFollows frames body_leaves ends BodyStands hb) where
-
   abbrev HereBody : G × P → OnEarlyDropBody B K → List ℕ → Type 0
   HereBody = DropBodyStands given hb BodyStands
 
@@ -192,7 +189,6 @@ made_is (Some x) a P h s = ap (λ y. Some y) (h x s)
 module _ {S A H F B X C I : Type 0} (calls : Calls S (Request B X) F) (leaves : Leaves B) (Wanted : Request B X → Type 0) (Serves : S → Type 0) (Stands : ℕ → F → Where → Type 0) (es : List Event)
     (makes : Makes A B X C) (callback : ℕ → C) (future_hook : MakeFollows makes callback) (starts : Makes H B X I) (begun : ℕ → I) (body_hook : MakeFollows starts begun)
     (inner : ServiceFollows calls Wanted Serves Stands es) where
-
   refuses : (s : OnEarlyDropService S A H) (req : Request B X) (was : Recorded) (m : Moment) (e : NoMemory) (new : OnEarlyDropService S A H) (now : Recorded) →
       DropServes Serves s → EarlyCalls calls makes starts leaves s req was m (Err e) new now → DropServes Serves new
   refuses s req was m e new now k (inl d) = rw d.same k
@@ -202,12 +198,13 @@ module _ {S A H F B X C I : Type 0} (calls : Calls S (Request B X) F) (leaves : 
   pub drop_serves : ServiceFollows (EarlyCalls calls makes starts leaves) Wanted (DropServes Serves) (λ t. DropStands (callback t) (begun t) (Stands t)) es
   drop_serves = record {
     call = λ s req was m f new now q k c. let i = inner.call s.inner req was m f.inner new.inner now q k c.inner in (
-        i.0,
-        record {
-          guard_is = made_is (callback_of f.guard) (callback m.now) _ (λ x e. future_hook.gives s.on_future_drop req m x new.on_future_drop e) c.future_hook;
-          begun_is = made_is f.intermediate (begun m.now) _ (λ x e. body_hook.gives s.on_body_drop req m x new.on_body_drop e) c.body_hook;
-          inner = i.1;
-        },
-        i.2);
+      i.0,
+      record {
+        guard_is = made_is (callback_of f.guard) (callback m.now) _ (λ x e. future_hook.gives s.on_future_drop req m x new.on_future_drop e) c.future_hook;
+        begun_is = made_is f.intermediate (begun m.now) _ (λ x e. body_hook.gives s.on_body_drop req m x new.on_body_drop e) c.body_hook;
+        inner = i.1;
+      },
+      i.2,
+    );
     refused = refuses;
   }

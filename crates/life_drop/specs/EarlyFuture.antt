@@ -1,11 +1,10 @@
 -- What `OnEarlyDropFuture` does: the inner answers; any of them completes its guard, and a response's body gets one.
-use Rattle.std.specs.Prelude.{◌≡◌, ℕ, Bool, ◌⊎◌, Option, Some, None, Result, Ok, Err, IsSomeAnd, if◌then◌else◌}
-use Rattle.life_core.specs.Meaning.{Polls, Leaves, GivenUp}
+use Rattle.std.specs.Prelude.{◌≡◌, Bool, ◌⊎◌, Some, None, Result, Ok, Err, IsSomeAnd, if◌then◌else◌}
+use Rattle.life_core.specs.Meaning.{Polls, Leaves}
 use Rattle.life_core.specs.Moment.{Moment}
 use Rattle.life_core.specs.Recorded.{Recorded}
 use Rattle.life_core.specs.declared.message.Response.{Response}
 use Rattle.life_core.specs.declared.message.ResponseHead.{ResponseHead}
-use Rattle.life_core.specs.declared.poll.Poll.{Poll}
 use Rattle.life_core.specs.declared.poll.Poll.TheVariants.{Ready, Pending}
 use Rattle.life_core.specs.declared.recorder.NoMemory.{NoMemory}
 use Rattle.life_drop.specs.declared.on_early_drop.body.OnEarlyDropBody.{OnEarlyDropBody}

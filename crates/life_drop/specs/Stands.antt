@@ -1,6 +1,6 @@
 -- Where the values of this layer stand after some polls, and what their histories are.
 use Rattle.std.specs.Prelude.{◌≡◌, ℕ, List, [], ◌∷◌, ◌++◌, Bool, true, false, ◌||◌, if◌then◌else◌, Option, Some, None, ⊤}
-use Rattle.life_core.specs.History.{BodyHistory, Said, said_under, FutureHistory, Where, Waiting, Answered}
+use Rattle.life_core.specs.History.{BodyHistory, said_under, FutureHistory, Where, Waiting, Answered}
 use Rattle.life_core.specs.declared.event.Event.{Event}
 use Rattle.life_drop.specs.declared.on_early_drop.body.OnEarlyDropBody.{OnEarlyDropBody}
 use Rattle.life_drop.specs.declared.on_early_drop.future.OnEarlyDropFuture.{OnEarlyDropFuture}

@@ -1,5 +1,6 @@
 //! The driven stack, and what each of its calls gives by the table of the story.
 ghost use Rattle.std.specs.Prelude.{◌≡◌, List, [], IfOk, IfErr};
+ghost use Rattle.http.specs.Request.{IsNewHead};
 ghost use Rattle.life_core.specs.History.{Grew};
 ghost use Rattle.life_core.specs.Moment.{SameContext};
 ghost use Rattle.life_core.specs.Poll.{IfReady, OnPending};
@@ -7,6 +8,7 @@ ghost use Rattle.life_script.specs.ScriptView.{ScriptView};
 ghost use Rattle.life_stack.specs.Driven.{BodyMay, FutureLive, FutureMay, StackMay, StackStands};
 ghost use Rattle.life_stack.specs.Own.{NotBefore, Own};
 ghost use Rattle.life_stack.specs.StandsAt.{BodyAt, BodyPolled, Called, FreshAt, FutureAnswered, FutureAt, FuturePolled};
+ghost use Rattle.life_stack.specs.Script.{IsDefaultBody};
 ghost use Rattle.life_stack.specs.Story.{drops};
 ghost use Rattle.life_script.specs.declared.scenario.Limits.{Limits as LimitsView};
 
@@ -50,7 +52,10 @@ pub fn drive_stack(alloc: Global, limits: &Limits, scenario: &Scenario) -> Got<D
 }
 
 /// The request of the script: GET `/` in HTTP/1.1, with no headers and a body without items.
-pub fn script_request(alloc: Global) -> Request<ScriptBody, ()> {
+pub fn script_request(alloc: Global) -> Request<ScriptBody, ()>
+    ensures head { IsNewHead result.head.parts }
+    ensures body { IsDefaultBody result.body }
+{
     Request::new(alloc, ScriptBody::default(), ())
 }
 

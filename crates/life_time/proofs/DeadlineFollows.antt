@@ -1,10 +1,8 @@
 -- `ResponseBodyDeadline` passes its future's answers on; its body answers by its timer first.
-use Rattle.std.proofs.Common.{◌≡◌, ℕ, ◌<◌, List, [], ◌∷◌, length, Bool, true, false, Option, Some, None, Ok, Err, Result, refl, ap, ap₂, ◌∙◌, subst}
-use Rattle.std.specs.Prelude.{if◌then◌else◌}
+use Rattle.std.proofs.Common.{◌≡◌, ℕ, List, [], ◌∷◌, Bool, true, false, Option, Some, None, Ok, Err, Result, refl, ap, ◌∙◌, subst}
 use Rattle.http_body.specs.declared.frame.Frame.{Frame}
 use Rattle.life_core.specs.Due.{due}
-use Rattle.life_core.specs.Meaning.{Polls, Leaves, Frames, Calls, LeavesIfAny, PollsWithin, WrapsFaults}
-use Rattle.life_core.specs.Message.{IsBare}
+use Rattle.life_core.specs.Meaning.{Polls, Leaves, Frames, Calls, WrapsFaults}
 use Rattle.life_core.specs.Moment.{Moment}
 use Rattle.life_core.specs.Recorded.{Recorded}
 use Rattle.life_core.specs.declared.event.Event.{Event}
@@ -14,9 +12,8 @@ use Rattle.life_core.specs.declared.body.BodyError.{BodyError}
 use Rattle.life_core.specs.declared.body.BodyError.TheVariants.{Elapsed, Inner}
 use Rattle.life_core.specs.declared.poll.Poll.{Poll}
 use Rattle.life_core.specs.declared.poll.Poll.TheVariants.{Ready, Pending}
-use Rattle.life_core.specs.declared.recorder.NoMemory.{NoMemory}
 use Rattle.life_core.specs.declared.clock.Timer.{Timer}
-use Rattle.life_core.specs.History.{Latest, Grew, BodyHistory, BodyFollows, FrameSteps, FutureHistory, FutureFollows, PollSteps, Said, Waits, Gives, Fails, Where, Waiting, Answered, Matches, where_after, left_at, said_under, ServiceFollows}
+use Rattle.life_core.specs.History.{Latest, Grew, BodyHistory, BodyFollows, FrameSteps, FutureHistory, FutureFollows, PollSteps, Said, Waits, Gives, Fails, Where, Waiting, Answered, Matches, left_at, said_under, ServiceFollows}
 use Rattle.life_core.proofs.Growth.{grew_none}
 use Rattle.life_core.proofs.Due.{undue_before}
 use Rattle.life_time.specs.declared.timeout.deadline_body.DeadlineBody.{DeadlineBody}
@@ -32,7 +29,6 @@ undue_all start len q (p ∷ past) l e = rw (undue_before start len p q l.0 e) (
 module _ {H P F B X E : Type 0} (polls : Polls F (Result (Response B X) E)) (leaves : Leaves F) (Heads : H → ResponseHead X → Type 0)
     (Stands : F → Where → Type 0) (BodyStands : P → B → List ℕ → Type 0) (h : FutureHistory H P E) (len : ℕ)
     (inner : FutureFollows polls leaves Heads Stands BodyStands h) where
-
   abbrev BS : ℕ × P → DeadlineBody B → List ℕ → Type 0
   BS = DeadlineBodyStands len BodyStands
 
@@ -90,7 +86,6 @@ module _ {H P F B X E : Type 0} (polls : Polls F (Result (Response B X) E)) (lea
 module _ {P B D E : Type 0} (frames : Frames B D E) (leaves : Leaves B) (ends : B → Bool)
     (Stands : P → B → List ℕ → Type 0) (h : P → BodyHistory D E) (len : ℕ)
     (inner : BodyFollows frames leaves ends Stands h) where
-
   abbrev Here : ℕ × P → DeadlineBody B → List ℕ → Type 0
   Here = DeadlineBodyStands len Stands
 
@@ -134,13 +129,13 @@ module _ {P B D E : Type 0} (frames : Frames B D E) (leaves : Leaves B) (ends : 
   }
 
 module _ {S R F : Type 0} (calls : Calls S R F) (Asks : R → Type 0) (Serves : S → Type 0) (Stands : ℕ → F → Where → Type 0) (es : List Event) (inner : ServiceFollows calls Asks Serves Stands es) where
-
   pub deadline_serves : (timeout : ℕ) → ServiceFollows (DeadlineCalls calls) Asks (DeadlineServes timeout Serves) (λ t. DeadlineStands timeout (Stands t)) es
   deadline_serves timeout = record {
     call = λ s req was m f new now q k c. let i = inner.call s.inner req was m f.inner new.inner now q k.inner c.inner in (
-        record { timeout_is = ap (λ x. x.timeout) c.same ∙ k.timeout_is; inner = i.0 },
-        record { timeout_is = c.timeout ∙ k.timeout_is; inner = i.1 },
-        i.2);
+      record { timeout_is = ap (λ x. x.timeout) c.same ∙ k.timeout_is; inner = i.0 },
+      record { timeout_is = c.timeout ∙ k.timeout_is; inner = i.1 },
+      i.2,
+    );
     refused = λ s req was m e new now k c. record {
       timeout_is = ap (λ x. x.timeout) c.same ∙ k.timeout_is;
       inner = inner.refused s.inner req was m e new.inner now k.inner c.inner;

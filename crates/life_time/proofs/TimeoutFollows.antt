@@ -1,22 +1,19 @@
 -- `Timeout` answers by its timer first, and else as its inner future.
-use Rattle.std.proofs.Common.{◌≡◌, ℕ, ◌<◌, List, [], ◌∷◌, length, Bool, true, false, Option, Some, None, Ok, Err, Result, refl, ap, ap₂, ◌∙◌, subst}
+use Rattle.std.proofs.Common.{◌≡◌, ℕ, ◌<◌, List, [], length, Bool, true, false, Option, Some, None, Ok, Err, Result, refl, ap, ap₂, ◌∙◌, subst}
 use Rattle.std.specs.Prelude.{if◌then◌else◌}
-use Rattle.http_body.specs.declared.frame.Frame.{Frame}
 use Rattle.life_core.specs.Due.{due}
-use Rattle.life_core.specs.Meaning.{Polls, Leaves, Frames, Calls, LeavesIfAny, PollsWithin, WrapsFaults}
+use Rattle.life_core.specs.Meaning.{Polls, Leaves, Calls, LeavesIfAny, PollsWithin}
 use Rattle.life_core.specs.Message.{IsBare}
 use Rattle.life_core.specs.Moment.{Moment}
 use Rattle.life_core.specs.Recorded.{Recorded}
 use Rattle.life_core.specs.declared.event.Event.{Event}
 use Rattle.life_core.specs.declared.message.Response.{Response}
 use Rattle.life_core.specs.declared.message.ResponseHead.{ResponseHead}
-use Rattle.life_core.specs.declared.body.BodyError.{BodyError}
-use Rattle.life_core.specs.declared.body.BodyError.TheVariants.{Elapsed, Inner}
 use Rattle.life_core.specs.declared.poll.Poll.{Poll}
 use Rattle.life_core.specs.declared.poll.Poll.TheVariants.{Ready, Pending}
 use Rattle.life_core.specs.declared.recorder.NoMemory.{NoMemory}
 use Rattle.life_core.specs.declared.clock.Timer.{Timer}
-use Rattle.life_core.specs.History.{Latest, Grew, BodyHistory, BodyFollows, FrameSteps, FutureHistory, FutureFollows, PollSteps, Said, Waits, Gives, Fails, Where, Waiting, Answered, Matches, where_after, left_at, said_under, ServiceFollows}
+use Rattle.life_core.specs.History.{Grew, FutureHistory, FutureFollows, Gives, Where, Waiting, Answered, Matches, where_after, left_at, ServiceFollows}
 use Rattle.life_core.proofs.Growth.{grew_none}
 use Rattle.life_time.specs.declared.timeout.service.ResponseFuture.{ResponseFuture}
 use Rattle.life_time.specs.Timeout.{TimeoutCalls, TimeoutPolls, TimeoutLeaves, DuePolls, InnerPolls}
@@ -27,7 +24,6 @@ module _ {H P F B X E : Type 0} (polls : Polls F (Result (Response B X) E)) (lea
     (Stands : F → Where → Type 0) (BodyStands : P → B → List ℕ → Type 0) (h : FutureHistory H P E)
     (p : P) (default : (b : B) → is_body b → BodyStands p b [])
     (inner : FutureFollows polls leaves Heads Stands BodyStands h) where
-
   Here : ResponseFuture F → Where → Type 0
   Here f w = TimeoutStands timer status Stands f w
 
@@ -45,9 +41,10 @@ module _ {H P F B X E : Type 0} (polls : Polls F (Result (Response B X) E)) (lea
   on_due : (past : List ℕ) (f : ResponseFuture F) (was : Recorded) (m : Moment) (a : Poll (Result (Response B X) E)) (new : ResponseFuture F) (now : Recorded) →
       TimeoutStands timer status Stands f (Waiting past) → DuePolls leaves is_body is_ext f was m (Ok a) new now → Steps true past was m a new now
   on_due past f was m (Ready (Ok r)) new now s d = (
-      (heads r.head (subst (λ x. IsBare is_ext x r.head) s.status_is d.reply.0), default r.body d.reply.1),
-      left_any past f.inner was m tt now s.inner d.left,
-      rw d.after (record { timer_is = s.timer_is; status_is = s.status_is; inner = tt }))
+    (heads r.head (subst (λ x. IsBare is_ext x r.head) s.status_is d.reply.0), default r.body d.reply.1),
+    left_any past f.inner was m tt now s.inner d.left,
+    rw d.after (record { timer_is = s.timer_is; status_is = s.status_is; inner = tt }),
+  )
   on_due past f was m (Ready (Err e)) new now s d = absurd d.reply
   on_due past f was m Pending new now s d = absurd d.reply
 
@@ -61,9 +58,10 @@ module _ {H P F B X E : Type 0} (polls : Polls F (Result (Response B X) E)) (lea
   in_time : (past : List ℕ) (f : ResponseFuture F) (was : Recorded) (m : Moment) (a : Poll (Result (Response B X) E)) (new : ResponseFuture F) (now : Recorded) →
       TimeoutStands timer status Stands f (Waiting past) → InnerPolls polls f was m (Ok a) new now → Steps false past was m a new now
   in_time past f was m a new now s d = let r = polled past f.inner new.inner was m a now s.inner d.inner in (
-      r.0,
-      r.1,
-      record { timer_is = ap (λ x. x.timer) d.same ∙ s.timer_is; status_is = ap (λ x. x.status_code) d.same ∙ s.status_is; inner = r.2 })
+    r.0,
+    r.1,
+    record { timer_is = ap (λ x. x.timer) d.same ∙ s.timer_is; status_is = ap (λ x. x.status_code) d.same ∙ s.status_is; inner = r.2 },
+  )
 
   by_test : (b : Bool) (past : List ℕ) (f : ResponseFuture F) (was : Recorded) (m : Moment) (a : Poll (Result (Response B X) E)) (new : ResponseFuture F) (now : Recorded) →
       due f.timer.start f.timer.length m.now ≡ b → TimeoutStands timer status Stands f (Waiting past) → TimeoutPolls polls leaves is_body is_ext f was m (Ok a) new now → Steps b past was m a new now
@@ -93,17 +91,17 @@ module _ {H P F B X E : Type 0} (polls : Polls F (Result (Response B X) E)) (lea
   }
 
 module _ {S R F : Type 0} (calls : Calls S R F) (Asks : R → Type 0) (Serves : S → Type 0) (Stands : ℕ → F → Where → Type 0) (es : List Event) (inner : ServiceFollows calls Asks Serves Stands es) where
-
   pub timeout_serves : (timeout status : ℕ) → ServiceFollows (TimeoutCalls calls) Asks (TimeoutServes timeout status Serves) (λ t. TimeoutStands (record { start = t; length = timeout }) status (Stands t)) es
   timeout_serves timeout status = record {
     call = λ s req was m f new now q k c. let g = c.inner in let i = inner.call s.inner req was m g.0 new.inner now q k.inner g.1 in (
-        record { timeout_is = ap (λ x. x.timeout) c.same ∙ k.timeout_is; status_is = ap (λ x. x.status_code) c.same ∙ k.status_is; inner = i.0 },
-        record {
-          timer_is = ap₂ (λ a b. record { start = a; length = b }) g.2.start (g.2.length ∙ k.timeout_is);
-          status_is = g.2.status ∙ k.status_is;
-          inner = rw g.2.holds i.1;
-        },
-        i.2);
+      record { timeout_is = ap (λ x. x.timeout) c.same ∙ k.timeout_is; status_is = ap (λ x. x.status_code) c.same ∙ k.status_is; inner = i.0 },
+      record {
+        timer_is = ap₂ (λ a b. record { start = a; length = b }) g.2.start (g.2.length ∙ k.timeout_is);
+        status_is = g.2.status ∙ k.status_is;
+        inner = rw g.2.holds i.1;
+      },
+      i.2,
+    );
     refused = λ s req was m e new now k c. record {
       timeout_is = ap (λ x. x.timeout) c.same ∙ k.timeout_is;
       status_is = ap (λ x. x.status_code) c.same ∙ k.status_is;

@@ -1,5 +1,5 @@
 -- What `Timeout` does: its timer first, then the inner future.
-use Rattle.std.specs.Prelude.{◌≡◌, ℕ, true, false, Option, Some, None, Result, Ok, Err, IfOk, IfSome, IsSomeAnd}
+use Rattle.std.specs.Prelude.{◌≡◌, ℕ, true, false, Some, None, Result, Ok, Err, IfOk, IfSome, IsSomeAnd}
 use Rattle.life_core.specs.Due.{due}
 use Rattle.life_core.specs.Meaning.{Polls, Leaves, Readies, Calls, spent, LeavesIfAny, PollsWithin}
 use Rattle.life_core.specs.Message.{IsBare}
