@@ -1,43 +1,36 @@
 -- The composed histories give the answers of the table.
-use Rattle.std.proofs.Common.{◌≡◌, ◌≢◌, ℕ, zero, suc, ◌+◌, ◌-◌, ◌<◌, ◌≤◌, List, [], ◌∷◌, ◌++◌, length, get_or, drop, reverse, flat_map, Bool, true, false, Option, Some, None, Ok, Err, Result, IfOk, IfErr, refl, sym, ap, ◌∙◌, subst, arith, length-append, ⊎_elim, append-nil, append_assoc, le-ltb}
-use Rattle.std.specs.Prelude.{slice_get, slice_index, nat_lt, nat_le, if◌then◌else◌, ◌||◌, ◌&&◌, ◌==◌, ⊤}
-use Rattle.std.proofs.lemmas.Bool.{lt-ltb, eq-eqb, ne_eqb}
+use Rattle.std.proofs.Common.{◌≡◌, ℕ, suc, ◌-◌, ◌<◌, List, [], ◌∷◌, ◌++◌, length, Bool, true, false, Option, Some, None, Ok, Err, Result, refl, ap, ◌∙◌, arith, le-ltb}
+use Rattle.std.specs.Prelude.{slice_get, slice_index, if◌then◌else◌}
+use Rattle.std.proofs.lemmas.Bool.{eq-eqb, ne_eqb}
 use Rattle.std.proofs.lemmas.List.{get_or_at, get_or_append_left}
-use Rattle.http_body.specs.Frame.{data_frame}
 use Rattle.http_body.specs.declared.frame.Frame.{Frame}
 use Rattle.life_core.specs.declared.body.BodyError.{BodyError}
-use Rattle.life_core.specs.declared.body.BodyError.TheVariants.{Elapsed, Inner}
+use Rattle.life_core.specs.declared.body.BodyError.TheVariants.{Elapsed}
 use Rattle.life_core.specs.declared.poll.Poll.{Poll}
 use Rattle.life_core.specs.declared.poll.Poll.TheVariants.{Ready, Pending}
-use Rattle.life_core.specs.History.{Latest, Said, Waits, Gives, Fails, BodyHistory}
+use Rattle.life_core.specs.History.{Latest, Said, Waits, Gives, Fails}
 use Rattle.life_drop.specs.EarlyBody.{is_ending_frame}
 use Rattle.life_drop.specs.Note.{drop_record}
 use Rattle.life_time.specs.Stands.{undue, wrapped}
 use Rattle.life_time.proofs.DeadlineFollows.{undue_all}
 use Rattle.life_core.specs.Due.{due}
-use Rattle.life_core.specs.declared.event.DropKind.{DropKind}
 use Rattle.life_core.specs.declared.event.DropKind.TheVariants as drop_kind
 use Rattle.life_core.specs.declared.event.Event.{Event}
-use Rattle.life_core.specs.declared.event.Event.TheVariants as event
 use Rattle.life_script.specs.ScriptView.{ScriptView}
 use Rattle.life_script.specs.Views.{ReplyView}
 use Rattle.life_script.specs.declared.answer.Answer.{Answer}
 use Rattle.life_script.specs.declared.answer.Answer.TheVariants as ans
-use Rattle.life_script.specs.declared.answer.Seen.TheVariants as seen
-use Rattle.life_script.specs.declared.scenario.Act.{Act}
-use Rattle.life_script.specs.declared.scenario.Act.TheVariants as act
 use Rattle.life_script.specs.declared.scenario.BodyItem.{BodyItem}
 use Rattle.life_script.specs.declared.scenario.BodyItem.TheVariants as body_item
 use Rattle.life_script.specs.declared.scenario.Limits.{Limits}
 use Rattle.life_script.specs.declared.scenario.PollItem.{PollItem}
 use Rattle.life_script.specs.declared.scenario.Then.{Then}
 use Rattle.life_script.specs.declared.scenario.Then.TheVariants as then_
-use Rattle.life_stack.specs.Own.{Own, NotBefore, called_at, after_call, polls_before_drop, first_drop, polls, dropped_at, drop_time}
-use Rattle.life_stack.specs.Story.{next, first_due, later, reply_in, here_or_later, first_reply, earlier, counted, due_reply, head, tells_after, item_answer, body_answer, by_head, poll_answer, on_call, on_poll, on_drop, answer, answers_after, answers, is_ending, any_ending, kind_after, kind_of, drops_at, drops, events_of, turn, turns_after, unless_dropped, at_end, dropped_in}
+use Rattle.life_stack.specs.Story.{due_reply, head, tells_after, item_answer, body_answer, by_head, is_ending}
 use Rattle.life_stack.specs.Driven.{item_says, then_says, timed_body_history, future_history}
 use Rattle.life_stack.specs.Script.{item_frame}
 use Rattle.life_stack.specs.StandsAt.{BodySaid}
-use Rattle.life_stack.proofs.Heads.{head_of, head_more, length_push}
+use Rattle.life_stack.proofs.Heads.{head_of, head_more}
 
 -- what the service says under the timer
 abbrev pub timed_says : Limits → ScriptView → ℕ → ℕ → ℕ → Said ℕ ReplyView (List ℕ)

@@ -1,11 +1,9 @@
 -- The driven stack follows its histories: each layer's lemma over the one below it.
-use Rattle.std.proofs.Common.{◌≡◌, ℕ, List, [], refl, ap}
-use Rattle.std.specs.Prelude.{⊤}
+use Rattle.std.proofs.Common.{ℕ, []}
 use Rattle.life_core.specs.History.{BodyFollows, FutureFollows, ServiceFollows}
-use Rattle.life_core.specs.Meaning.{Polls, Leaves, Frames}
 use Rattle.life_core.specs.declared.event.DropKind.TheVariants as drop_kind
 use Rattle.life_core.specs.declared.message.Request.{Request}
-use Rattle.life_drop.specs.Note.{NotesBody, noting}
+use Rattle.life_drop.specs.Note.{noting}
 use Rattle.life_drop.proofs.DropFollows.{drop_follows, drop_body_follows, drop_serves}
 use Rattle.life_drop.proofs.NoteFollows.{note_records, note_future, note_start, note_body}
 use Rattle.life_time.specs.DeadlineBody.{DeadlineBodyLeaves, DeadlineFrames, deadline_ends}
@@ -14,7 +12,7 @@ use Rattle.life_time.proofs.DeadlineFollows.{deadline_follows, deadline_body_fol
 use Rattle.life_time.proofs.TimeoutFollows.{timeout_follows, timeout_serves}
 use Rattle.life_script.specs.ScriptView.{ScriptView}
 use Rattle.life_script.specs.declared.scenario.Limits.{Limits}
-use Rattle.life_stack.specs.Driven.{DriveStack, DriveFuture, DriveBody, drive_calls, drive_polls, drive_leaves, drive_frames, drive_body_leaves, drive_ends, Heads, StackStands, FutureStands, future_history, timed_body_history, ScriptBodyStands, script_body_history, BodyStands, body_history}
+use Rattle.life_stack.specs.Driven.{drive_calls, drive_polls, drive_leaves, drive_frames, drive_body_leaves, drive_ends, Heads, StackStands, FutureStands, future_history, timed_body_history, ScriptBodyStands, BodyStands, body_history}
 use Rattle.life_stack.specs.Script.{IsDefaultBody, ScriptFrames, ScriptLeaves, tells_end}
 use Rattle.life_stack.specs.Story.{due_reply}
 use Rattle.life_stack.specs.declared.script_service.ScriptBody.{ScriptBody}

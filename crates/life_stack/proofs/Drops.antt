@@ -1,8 +1,7 @@
 -- The early drops of a whole story are those of the table.
-use Rattle.std.proofs.Common.{◌≡◌, ◌≢◌, ℕ, zero, suc, ◌+◌, ◌-◌, ◌<◌, ◌≤◌, List, [], ◌∷◌, ◌++◌, length, get_or, drop, reverse, flat_map, Bool, true, false, Option, Some, None, Ok, Err, Result, IfOk, IfErr, refl, sym, ap, ◌∙◌, subst, arith, length-append, ⊎_elim, append-nil, append_assoc, le-ltb}
-use Rattle.std.specs.Prelude.{slice_get, slice_index, nat_lt, nat_le, if◌then◌else◌, ◌||◌, ◌&&◌, ◌==◌, ⊤}
+use Rattle.std.proofs.Common.{◌≡◌, ℕ, suc, ◌-◌, List, [], ◌∷◌, ◌++◌, length, flat_map, Bool, true, false, Option, Some, None, refl, sym, ap, ◌∙◌, append-nil, append_assoc}
+use Rattle.std.specs.Prelude.{slice_get, slice_index, nat_lt, if◌then◌else◌, ◌||◌, ◌==◌}
 use Rattle.life_core.specs.Due.{due}
-use Rattle.life_core.specs.declared.event.DropKind.{DropKind}
 use Rattle.life_core.specs.declared.event.DropKind.TheVariants as drop_kind
 use Rattle.life_core.specs.declared.event.Event.{Event}
 use Rattle.life_core.specs.declared.event.Event.TheVariants as event
@@ -10,21 +9,16 @@ use Rattle.life_script.specs.ScriptView.{ScriptView}
 use Rattle.life_script.specs.Views.{ReplyView}
 use Rattle.life_script.specs.declared.answer.Answer.{Answer}
 use Rattle.life_script.specs.declared.answer.Answer.TheVariants as ans
-use Rattle.life_script.specs.declared.answer.Seen.TheVariants as seen
-use Rattle.life_script.specs.declared.scenario.Act.{Act}
 use Rattle.life_script.specs.declared.scenario.Act.TheVariants as act
 use Rattle.life_script.specs.declared.scenario.BodyItem.{BodyItem}
 use Rattle.life_script.specs.declared.scenario.BodyItem.TheVariants as body_item
 use Rattle.life_script.specs.declared.scenario.Limits.{Limits}
-use Rattle.life_script.specs.declared.scenario.PollItem.{PollItem}
-use Rattle.life_script.specs.declared.scenario.Then.{Then}
-use Rattle.life_script.specs.declared.scenario.Then.TheVariants as then_
-use Rattle.life_stack.specs.Own.{Own, NotBefore, called_at, after_call, polls_before_drop, first_drop, polls, dropped_at, drop_time}
-use Rattle.life_stack.specs.Story.{next, first_due, later, reply_in, here_or_later, first_reply, earlier, counted, due_reply, head, tells_after, item_answer, body_answer, by_head, poll_answer, on_call, on_poll, on_drop, answer, answers_after, answers, is_ending, any_ending, kind_after, kind_of, drops_at, drops, events_of, turn, turns_after, unless_dropped, at_end, dropped_in, drop_records, story}
+use Rattle.life_stack.specs.Own.{Own, called_at, first_drop, polls, dropped_at, drop_time}
+use Rattle.life_stack.specs.Story.{head, tells_after, item_answer, by_head, on_call, on_drop, answer, answers, any_ending, kind_of, drops_at, drops, events_of, turns_after, unless_dropped, at_end, dropped_in, drop_records, story}
 use Rattle.life_core.specs.declared.body.BodyError.TheVariants.{Elapsed}
 use Rattle.life_core.specs.declared.latency.LatencyUnit.TheVariants.{Nanos}
 use Rattle.life_script.specs.ToldView.{TurnView}
-use Rattle.life_stack.proofs.Acts.{called_kept, called_now, after_now, poll_uncalled, drop_uncalled, dropped_after_poll, dropped_after_call, dropped_now, dropped_kept, answers_push, any_ending_push, kind_of_push}
+use Rattle.life_stack.proofs.Acts.{called_kept, after_now, poll_uncalled, drop_uncalled, dropped_after_poll, dropped_after_call, dropped_now, dropped_kept, answers_push, any_ending_push, kind_of_push}
 
 some≢none : {A : Type 0} {x : A} → Some x ≡ None → ⊥
 some≢none e = cc

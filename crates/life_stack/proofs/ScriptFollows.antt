@@ -1,9 +1,9 @@
 -- The scripted service answers by its items.
 use lib.Dec.{leb-zero, leb-suc-suc}
-use Rattle.std.proofs.Common.{◌≡◌, ℕ, zero, suc, ◌+◌, ◌≤◌, List, [], ◌∷◌, length, drop, Bool, true, false, Option, Some, None, Ok, Err, Result, refl, sym, ap, ◌∙◌, subst, arith}
+use Rattle.std.proofs.Common.{◌≡◌, ℕ, zero, suc, ◌+◌, List, [], ◌∷◌, length, drop, Option, Some, None, Ok, Err, Result, refl, sym, ap, ◌∙◌, subst, arith}
 use Rattle.std.proofs.lemmas.List.{drop-drop}
-use Rattle.std.specs.Prelude.{◌&&◌, nat_le, slice_get, ⊤}
-use Rattle.life_core.specs.History.{BodyFollows, FrameSteps, FutureFollows, PollSteps, Waits, Where, Waiting, Answered, Matches, where_after, left_at, ServiceFollows}
+use Rattle.std.specs.Prelude.{◌&&◌, nat_le, slice_get}
+use Rattle.life_core.specs.History.{BodyFollows, FutureFollows, Waits, Where, Waiting, Answered, Matches, where_after, left_at, ServiceFollows}
 use Rattle.life_core.specs.declared.message.Request.{Request}
 use Rattle.life_core.specs.declared.message.Response.{Response}
 use Rattle.life_core.specs.declared.poll.Poll.{Poll}

@@ -1,38 +1,25 @@
 -- What one act shows, by the table.
-use Rattle.std.proofs.Common.{◌≡◌, ◌≢◌, ℕ, zero, suc, ◌+◌, ◌-◌, ◌<◌, ◌≤◌, List, [], ◌∷◌, ◌++◌, length, get_or, drop, reverse, flat_map, Bool, true, false, Option, Some, None, Ok, Err, Result, IfOk, IfErr, refl, sym, ap, ◌∙◌, subst, arith, length-append, ⊎_elim, append-nil, append_assoc, le-ltb}
-use Rattle.std.specs.Prelude.{slice_get, slice_index, nat_lt, nat_le, if◌then◌else◌, ◌||◌, ◌&&◌, ◌==◌, ⊤}
+use Rattle.std.proofs.Common.{◌≡◌, ℕ, suc, List, [], ◌∷◌, ◌++◌, length, drop, reverse, Bool, Some, None, Ok, refl, sym, ap, ◌∙◌, append-nil}
+use Rattle.std.specs.Prelude.{slice_index}
 use Rattle.http_body.specs.Frame.{data_frame}
 use Rattle.http_body.specs.declared.frame.Frame.{Frame}
 use Rattle.life_core.specs.Recorded.{Recorded}
 use Rattle.life_core.specs.History.{Grew}
-use Rattle.life_core.specs.declared.poll.Poll.TheVariants.{Ready, Pending}
+use Rattle.life_core.specs.declared.poll.Poll.TheVariants.{Ready}
 use Rattle.life_script.specs.declared.answer.Seen.{Seen}
-use Rattle.life_core.specs.Due.{due}
-use Rattle.life_core.specs.declared.event.DropKind.{DropKind}
-use Rattle.life_core.specs.declared.event.DropKind.TheVariants as drop_kind
-use Rattle.life_core.specs.declared.event.Event.{Event}
-use Rattle.life_core.specs.declared.event.Event.TheVariants as event
 use Rattle.life_script.specs.ScriptView.{ScriptView}
-use Rattle.life_script.specs.Views.{ReplyView}
-use Rattle.life_script.specs.declared.answer.Answer.{Answer}
 use Rattle.life_script.specs.declared.answer.Answer.TheVariants as ans
 use Rattle.life_script.specs.declared.answer.Seen.TheVariants as seen
-use Rattle.life_script.specs.declared.scenario.Act.{Act}
 use Rattle.life_script.specs.declared.scenario.Act.TheVariants as act
-use Rattle.life_script.specs.declared.scenario.BodyItem.{BodyItem}
-use Rattle.life_script.specs.declared.scenario.BodyItem.TheVariants as body_item
 use Rattle.life_script.specs.declared.scenario.Limits.{Limits}
-use Rattle.life_script.specs.declared.scenario.PollItem.{PollItem}
-use Rattle.life_script.specs.declared.scenario.Then.{Then}
-use Rattle.life_script.specs.declared.scenario.Then.TheVariants as then_
-use Rattle.life_stack.specs.Own.{Own, NotBefore, called_at, after_call, polls_before_drop, first_drop, polls, dropped_at, drop_time}
-use Rattle.life_stack.specs.Story.{next, first_due, later, reply_in, here_or_later, first_reply, earlier, counted, due_reply, head, tells_after, item_answer, body_answer, by_head, poll_answer, on_call, on_poll, on_drop, answer, answers_after, answers, is_ending, any_ending, kind_after, kind_of, drops_at, drops, events_of, turn, turns_after, unless_dropped, at_end, dropped_in}
+use Rattle.life_stack.specs.Own.{Own, called_at, polls, dropped_at}
+use Rattle.life_stack.specs.Story.{head, on_call, on_poll, on_drop, answer, drops, events_of}
 use Rattle.life_stack.specs.Driven.{DriveStack, DriveFuture, DriveBody, StackStands, drive_ends}
 use Rattle.life_stack.specs.LiveAt.{LiveAt, Shown}
-use Rattle.life_stack.specs.StandsAt.{FreshAt, FutureAt, BodyAt, OverAt, FuturePolled, BodyPolled}
+use Rattle.life_stack.specs.StandsAt.{FreshAt, FutureAt, BodyAt, OverAt, BodyPolled}
 use Rattle.life_stack.specs.declared.live.Live.{Live}
 use Rattle.life_stack.specs.declared.live.Live.TheVariants as live
-use Rattle.life_stack.proofs.Acts.{answers_push, called_kept, poll_uncalled, drop_uncalled, polls_after_call, dropped_after_call, dropped_now, dropped_kept, not_before_push}
+use Rattle.life_stack.proofs.Acts.{called_kept, poll_uncalled, drop_uncalled, polls_after_call, dropped_after_call, dropped_now, dropped_kept, not_before_push}
 use Rattle.life_stack.proofs.Steps.{any_next, kind_next, or_no}
 
 module _ (limits : Limits) (script : ScriptView) (before : List Own) where

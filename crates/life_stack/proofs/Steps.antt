@@ -1,6 +1,6 @@
 -- Each call of the driven stack steps by the table.
-use Rattle.std.proofs.Common.{◌≡◌, ◌≢◌, ℕ, zero, suc, ◌+◌, ◌-◌, ◌<◌, ◌≤◌, List, [], ◌∷◌, ◌++◌, length, get_or, drop, reverse, flat_map, Bool, true, false, Option, Some, None, Ok, Err, Result, IfOk, IfErr, refl, sym, ap, ◌∙◌, subst, arith, length-append, ⊎_elim, append-nil, append_assoc, le-ltb}
-use Rattle.std.specs.Prelude.{slice_get, slice_index, nat_lt, nat_le, if◌then◌else◌, ◌||◌, ◌&&◌, ◌==◌, ⊤}
+use Rattle.std.proofs.Common.{◌≡◌, ℕ, suc, ◌-◌, ◌<◌, List, [], ◌∷◌, ◌++◌, length, drop, reverse, Bool, true, false, Option, Some, None, Ok, Err, Result, IfOk, IfErr, refl, sym, ap, ◌∙◌, subst, arith, le-ltb}
+use Rattle.std.specs.Prelude.{slice_index, if◌then◌else◌, ◌||◌}
 use Rattle.std.proofs.Common.{drop_of_length-le}
 use Rattle.std.proofs.lemmas.List.{reverse-append, drop-append-le}
 use Rattle.http_body.specs.declared.frame.Frame.{Frame}
@@ -13,34 +13,25 @@ use Rattle.life_core.specs.declared.message.Response.{Response}
 use Rattle.life_core.specs.declared.poll.Poll.{Poll}
 use Rattle.life_core.specs.declared.poll.Poll.TheVariants.{Ready, Pending}
 use Rattle.life_core.specs.declared.recorder.NoMemory.{NoMemory}
-use Rattle.life_core.specs.History.{Latest, Grew, FrameSteps, PollSteps, Said, Waits, Gives, Fails, Where, Waiting, Answered, Matches, where_after, left_at, said_under}
+use Rattle.life_core.specs.History.{Grew, FrameSteps, Said, Waits, Gives, Fails, Waiting, Answered, Matches, where_after, left_at, said_under}
 use Rattle.life_drop.specs.EarlyBody.{is_ending_frame}
 use Rattle.life_drop.specs.Stands.{ended, unless_ended}
-use Rattle.life_core.specs.Due.{due}
 use Rattle.life_core.specs.declared.event.DropKind.{DropKind}
 use Rattle.life_core.specs.declared.event.DropKind.TheVariants as drop_kind
 use Rattle.life_core.specs.declared.event.Event.{Event}
-use Rattle.life_core.specs.declared.event.Event.TheVariants as event
 use Rattle.life_script.specs.ScriptView.{ScriptView}
 use Rattle.life_script.specs.Views.{ReplyView}
 use Rattle.life_script.specs.declared.answer.Answer.{Answer}
 use Rattle.life_script.specs.declared.answer.Answer.TheVariants as ans
-use Rattle.life_script.specs.declared.answer.Seen.TheVariants as seen
-use Rattle.life_script.specs.declared.scenario.Act.{Act}
 use Rattle.life_script.specs.declared.scenario.Act.TheVariants as act
-use Rattle.life_script.specs.declared.scenario.BodyItem.{BodyItem}
-use Rattle.life_script.specs.declared.scenario.BodyItem.TheVariants as body_item
 use Rattle.life_script.specs.declared.scenario.Limits.{Limits}
-use Rattle.life_script.specs.declared.scenario.PollItem.{PollItem}
-use Rattle.life_script.specs.declared.scenario.Then.{Then}
-use Rattle.life_script.specs.declared.scenario.Then.TheVariants as then_
-use Rattle.life_stack.specs.Own.{Own, NotBefore, called_at, after_call, polls_before_drop, first_drop, polls, dropped_at, drop_time}
-use Rattle.life_stack.specs.Story.{next, first_due, later, reply_in, here_or_later, first_reply, earlier, counted, due_reply, head, tells_after, item_answer, body_answer, by_head, poll_answer, on_call, on_poll, on_drop, answer, answers_after, answers, is_ending, any_ending, kind_after, kind_of, drops_at, drops, events_of, turn, turns_after, unless_dropped, at_end, dropped_in}
+use Rattle.life_stack.specs.Own.{Own, NotBefore, polls_before_drop, first_drop, polls, dropped_at}
+use Rattle.life_stack.specs.Story.{first_due, first_reply, earlier, counted, due_reply, head, tells_after, body_answer, by_head, on_call, on_poll, answer, answers, is_ending, any_ending, kind_after, kind_of, drops, events_of}
 use Rattle.life_stack.specs.Driven.{DriveStack, DriveFuture, DriveBody, drive_calls, drive_polls, drive_leaves, drive_frames, drive_body_leaves, drive_ends, Heads, Plan, plan, StackStands, FutureStands, BodyStands, future_history, body_history, timed_body_history}
-use Rattle.life_stack.specs.StandsAt.{FreshAt, FutureAt, FutureAnswered, BodyAt, OverAt, FutureSaid, FutureLeft, FuturePolled, BodySaid, BodyPolled, Called}
+use Rattle.life_stack.specs.StandsAt.{FreshAt, FutureAt, FutureAnswered, BodyAt, FutureSaid, FutureLeft, FuturePolled, BodySaid, BodyPolled, Called}
 use Rattle.life_stack.specs.declared.script_service.ScriptBody.{ScriptBody}
 use Rattle.life_stack.proofs.Heads.{head_of, head_kept, length_push}
-use Rattle.life_stack.proofs.Acts.{called_kept, called_now, after_now, poll_uncalled, drop_uncalled, polls_after_poll, polls_after_call, dropped_after_poll, dropped_after_call, dropped_now, dropped_kept, answers_push, any_ending_push, kind_of_push, not_before_push}
+use Rattle.life_stack.proofs.Acts.{called_kept, called_now, after_now, polls_after_poll, dropped_after_poll, answers_push, any_ending_push, kind_of_push, not_before_push}
 use Rattle.life_stack.proofs.Answering.{timed_says, IsPlain, timed_plain, head_said, answer_at_head, answer_above_head, last_poll, earlier_poll, ending_said, body_table, future_events, frame_events}
 use Rattle.life_stack.proofs.DrivenFollows.{future_follows, body_follows, stack_follows}
 

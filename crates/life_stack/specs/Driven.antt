@@ -1,14 +1,11 @@
 -- The driven stack: its calls, where its values stand after some polls, and what their histories are.
-use Rattle.std.specs.Prelude.{◌≡◌, ℕ, Bool, true, ◌&&◌, nat_le, List, [], length, drop, slice_get, Option, Some, None, Result, ◌-◌, ◌∷◌, ⊤}
-use Rattle.http_body.specs.declared.frame.Frame.{Frame}
-use Rattle.life_core.specs.Due.{due}
+use Rattle.std.specs.Prelude.{◌≡◌, ℕ, Bool, ◌&&◌, nat_le, List, [], length, drop, slice_get, Option, Some, None, Result, ◌-◌, ◌∷◌, ⊤}
 use Rattle.life_core.specs.History.{BodyHistory, Said, Waits, Gives, FutureHistory, Where, Waiting, Answered}
 use Rattle.life_core.specs.Meaning.{Answer, Reply}
 use Rattle.life_core.specs.Message.{IsBare}
 use Rattle.life_core.specs.Moment.{Moment}
 use Rattle.life_core.specs.Recorded.{Recorded}
 use Rattle.life_core.specs.declared.body.BodyError.{BodyError}
-use Rattle.life_core.specs.declared.event.Event.{Event}
 use Rattle.life_core.specs.declared.event.DropKind.TheVariants as drop_kind
 use Rattle.life_core.specs.declared.message.Request.{Request}
 use Rattle.life_core.specs.declared.message.ResponseHead.{ResponseHead}

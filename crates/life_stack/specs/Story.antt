@@ -6,15 +6,13 @@ use Rattle.life_core.specs.declared.event.Event.TheVariants as event
 use Rattle.life_core.specs.declared.event.DropKind.{DropKind}
 use Rattle.life_core.specs.declared.event.DropKind.TheVariants as drop_kind
 use Rattle.life_core.specs.declared.latency.LatencyUnit.TheVariants.{Nanos}
-use Rattle.life_core.specs.declared.body.BodyError.{BodyError}
-use Rattle.life_core.specs.declared.body.BodyError.TheVariants.{Elapsed, Inner}
+use Rattle.life_core.specs.declared.body.BodyError.TheVariants.{Elapsed}
 use Rattle.life_script.specs.ScriptView.{ScriptView}
 use Rattle.life_script.specs.ToldView.{TurnView, ToldView}
 use Rattle.life_script.specs.Views.{ReplyView}
 use Rattle.life_script.specs.declared.answer.Answer.{Answer}
 use Rattle.life_script.specs.declared.answer.Answer.TheVariants as ans
 use Rattle.life_script.specs.declared.answer.Seen.TheVariants as seen
-use Rattle.life_script.specs.declared.scenario.Act.{Act}
 use Rattle.life_script.specs.declared.scenario.Act.TheVariants as act
 use Rattle.life_script.specs.declared.scenario.BodyItem.{BodyItem}
 use Rattle.life_script.specs.declared.scenario.BodyItem.TheVariants as body_item

@@ -3,9 +3,9 @@ ghost use Rattle.std.specs.Prelude.{◌≡◌, ◌++◌, List, ℕ, IfOk, codes,
 ghost use Rattle.life_script.specs.Reading.{Reads};
 ghost use Rattle.life_stack.specs.Due.{IsDueFor};
 
-use crate::status::Status;
 use crate::driving::drive;
 use crate::report::report_text;
+use crate::status::Status;
 use life_core::{Got, NoMemory, Octets};
 use life_script::{DriveError, Limits, ReadError, Scenario, read_scenario};
 use std::alloc::Global;

@@ -1,6 +1,6 @@
 //! Texts that are read, that are bad, and that ask for what is not there yet.
 use super::*;
-use crate::scenario::{Act, BodyItem, Then};
+use crate::scenario::{Act, BodyItem, PollItem, Step, Then};
 use std::test::Fail;
 
 const GOOD: &str =
@@ -16,32 +16,56 @@ fn kind(alloc: Global, bytes: &[u8]) -> &'static str {
 }
 
 #[test]
-fn reads_each_value(rt: HostRuntime) -> Result<(), Fail> {
-    let (limits, scenario) = read_scenario(rt.alloc(), GOOD.as_bytes())?;
+fn reads_limits(rt: HostRuntime) -> Result<(), Fail> {
+    let (limits, _) = read_scenario(rt.alloc(), GOOD.as_bytes())?;
     assert_eq!(rt; limits.timeout, 10);
     assert_eq!(rt; limits.timeout_status.as_u16(), 408);
     assert_eq!(rt; limits.body_deadline, 20);
-    assert_eq!(rt; scenario.end, 5);
+    Ok(())
+}
+
+fn name(act: Act) -> &'static str {
+    match act {
+        Act::Call => "call",
+        Act::Poll => "poll",
+        Act::Drop => "drop",
+    }
+}
+
+/// The time and the act of a step.
+fn shown(step: Option<&Step>) -> Option<(u64, &'static str)> {
+    let step = step?;
+    Some((step.at, name(step.act)))
+}
+
+#[test]
+fn reads_steps(rt: HostRuntime) -> Result<(), Fail> {
+    let (_, scenario) = read_scenario(rt.alloc(), GOOD.as_bytes())?;
     let steps = scenario.steps.as_slice();
-    assert_eq!(rt; steps.len(), 4);
-    let times = [steps[0].at, steps[1].at, steps[2].at, steps[3].at];
-    assert_eq!(rt; times, [0, 3, 4, 5]);
-    assert!(rt; matches!(steps[0].act, Act::Call));
-    assert!(rt; matches!(steps[2].act, Act::Poll));
-    assert!(rt; matches!(steps[3].act, Act::Drop));
+    assert_eq!(rt; shown(steps.get(0)), Some((0, "call")));
+    assert_eq!(rt; shown(steps.get(1)), Some((3, "poll")));
+    assert_eq!(rt; shown(steps.get(3)), Some((5, "drop")));
+    assert_eq!(rt; shown(steps.get(4)), None);
+    assert_eq!(rt; scenario.end, 5);
+    Ok(())
+}
+
+/// The status and the first chunk of the first item's response.
+fn reply(items: &[PollItem]) -> Option<(u16, &[u8])> {
+    let Then::Respond(reply) = &items.first()?.then else {
+        return None;
+    };
+    match reply.body.as_slice().first()? {
+        BodyItem::Chunk(bytes) => Some((reply.status.as_u16(), bytes.as_slice())),
+        BodyItem::Pending => None,
+    }
+}
+
+#[test]
+fn reads_the_reply(rt: HostRuntime) -> Result<(), Fail> {
+    let (_, scenario) = read_scenario(rt.alloc(), GOOD.as_bytes())?;
     let polls = scenario.request.polls.as_slice();
-    assert_eq!(rt; polls.len(), 1);
-    let Then::Respond(reply) = &polls[0].then else {
-        panic!(rt; "no response");
-    };
-    assert_eq!(rt; reply.status.as_u16(), 200);
-    assert!(rt; reply.tells);
-    let body = reply.body.as_slice();
-    assert_eq!(rt; body.len(), 1);
-    let BodyItem::Chunk(bytes) = &body[0] else {
-        panic!(rt; "no chunk");
-    };
-    assert_eq!(rt; bytes.as_slice(), b"hi".as_slice());
+    assert_eq!(rt; reply(polls), Some((200, b"hi" as &[u8])));
     Ok(())
 }
 

@@ -27,19 +27,37 @@ fn answers(rt: HostRuntime) -> Result<(), Fail> {
     shows(&rt, alloc, Answer::Called, "called")?;
     shows(&rt, alloc, Answer::Idle, "idle")?;
     shows(&rt, alloc, Answer::Pending, "pending")?;
-    for (ended, want) in [(false, "response 200 open {}"), (true, "response 200 ended {}")] {
+    for (ended, want) in [
+        (false, "response 200 open {}"),
+        (true, "response 200 ended {}"),
+    ] {
         shows(&rt, alloc, Answer::Response { status, ended }, want)?;
     }
     let refused = Text::copy(alloc, "no \u{e9}")?;
-    shows(&rt, alloc, Answer::ServiceError(refused), r#"error "no \xc3\xa9""#)?;
+    shows(
+        &rt,
+        alloc,
+        Answer::ServiceError(refused),
+        r#"error "no \xc3\xa9""#,
+    )?;
     let escapes = frame(alloc, b"hi\"\\\n\xff~\x7f", false)?;
     shows(&rt, alloc, escapes, r#"data "hi\"\\\x0a\xff~\x7f" open"#)?;
     let nothing = frame(alloc, b"", true)?;
     shows(&rt, alloc, nothing, r#"data "" ended"#)?;
     shows(&rt, alloc, Answer::End, "end")?;
-    shows(&rt, alloc, Answer::Fault(BodyError::Elapsed), "fault elapsed")?;
+    shows(
+        &rt,
+        alloc,
+        Answer::Fault(BodyError::Elapsed),
+        "fault elapsed",
+    )?;
     let cut = Text::copy(alloc, "cut")?;
-    shows(&rt, alloc, Answer::Fault(BodyError::Inner(cut)), r#"fault inner "cut""#)?;
+    shows(
+        &rt,
+        alloc,
+        Answer::Fault(BodyError::Inner(cut)),
+        r#"fault inner "cut""#,
+    )?;
     shows(&rt, alloc, Answer::Dropped, "dropped")?;
     Ok(())
 }
@@ -53,7 +71,10 @@ fn events(rt: HostRuntime) -> Result<(), Fail> {
     };
     let kinds = [
         (DropKind::Future, "dropped future latency 2 ns"),
-        (DropKind::Body(StatusCode::OK), "dropped body 200 latency 2 ns"),
+        (
+            DropKind::Body(StatusCode::OK),
+            "dropped body 200 latency 2 ns",
+        ),
     ];
     for (what, want) in kinds {
         let text = event_text(alloc, &Event::Dropped { what, latency })?;

@@ -1,4 +1,4 @@
-use Rattle.std.proofs.Common.{◌≡◌, List, ◌++◌, ℕ, Result, Ok, Err, IfOk, sym, ap, ◌∙◌}
+use Rattle.std.proofs.Common.{◌≡◌, List, ℕ, Result, Ok, Err, IfOk, sym, ap, ◌∙◌}
 use Rattle.life_core.specs.Recorded.{Recorded}
 use Rattle.life_core.specs.declared.recorder.NoMemory.{NoMemory}
 use Rattle.life_script.specs.ScriptView.{ScriptView}

@@ -1,8 +1,6 @@
-use Rattle.std.proofs.Common.{◌≡◌, ◌∷◌, [], ◌∙◌, ap, subst, sym}
+use Rattle.std.proofs.Common.{◌∙◌, ap}
 use Rattle.life_script.specs.ScriptView.{ScenarioView}
-use Rattle.life_script.specs.ToldView.{ToldView}
 use Rattle.life_stack.proofs.Reports.{report_fits}
-use Rattle.life_stack.specs.ReportView.{Fits}
 use Rattle.life_stack.proofs.driving.report_on.Goals as goal
 
 pub new-requires : goal.new-requires

@@ -10,8 +10,8 @@ put_twice old middle new a b first second = second ∙ (ap (λ (l : List ℕ). l
 pub returns-in_ok-text-in-Inner : goal.returns-in_ok-text-in-Inner
 returns-in_ok-text-in-Inner c =
     rw c.in-Inner.is
-      (on_ok_weaker
-        c.shown_text.result
-        (λ (e : c.shown_text.new.self ≡ c.text-in-Inner.new.self ++ shown c.in-Inner.inner).
-          put_twice c.args.self.now c.text-in-Inner.new.self c.shown_text.new.self (codes "fault inner ") (shown c.in-Inner.inner) c.in_ok-text-in-Inner.ensures e)
-        c.shown_text.ensures)
+    (on_ok_weaker
+    c.shown_text.result
+    (λ (e : c.shown_text.new.self ≡ c.text-in-Inner.new.self ++ shown c.in-Inner.inner).
+    put_twice c.args.self.now c.text-in-Inner.new.self c.shown_text.new.self (codes "fault inner ") (shown c.in-Inner.inner) c.in_ok-text-in-Inner.ensures e)
+    c.shown_text.ensures)
