@@ -106,6 +106,8 @@ pub fn abandon_future<L: Recorder>(future: DriveFuture<L>, cx: &mut Cx<'_, L>) -
         → IfOk result (λ done. Grew (L.recorded cx.old.rec.now) (L.recorded cx.new.rec.now) []) }
     ensures refused { (limits : LimitsView) (script : ScriptView) (acts : List Own) → FutureAt limits script acts future
         → IfErr result (λ error. (L.recorded cx.old.rec.now).spare ≡ 0) }
+    ensures answered_refused { (limits : LimitsView) (script : ScriptView) (acts : List Own) → FutureAnswered limits script acts future
+        → IfErr result (λ error. (L.recorded cx.old.rec.now).spare ≡ 0) }
     ensures context { SameContext L.place cx.old cx.new }
 {
     future.abandon(cx)
