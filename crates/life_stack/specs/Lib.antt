@@ -8,6 +8,7 @@ pub mod Own
 pub mod RanTo
 pub mod Report
 pub mod ReportView
+pub mod Rows
 pub mod Run
 pub mod Script
 pub mod StandsAt

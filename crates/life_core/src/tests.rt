@@ -1,0 +1,205 @@
+//! Each public call once, with ample memory.
+ghost use Rattle.std.specs.Prelude.{⊤};
+
+use super::*;
+use http::{StatusCode, Version};
+use std::alloc::Global;
+use std::process::Abort;
+use std::test::Fail;
+
+/// A body that is spent at once.
+#[derive(Clone, Copy)]
+struct Nothing;
+
+impl<L: Recorder> Spend<L> for Nothing {
+    ghost may = { λ _. ⊤ };
+
+    ghost leaves = { λ _ _ _ _ _. ⊤ };
+
+    fn abandon(self, _cx: &mut Cx<'_, L>) -> Got<()> {
+        Ok(())
+    }
+}
+
+#[test]
+fn clocks(rt: HostRuntime) {
+    let rows = [
+        (100, 20, 90, false, 0),
+        (100, 20, 119, false, 19),
+        (100, 20, 120, true, 20),
+        (5, 0, 4, false, 0),
+        (5, 0, 5, true, 0),
+    ];
+    for (start, length, now, due, gone) in rows {
+        let timer = Timer { start, length };
+        assert_eq!(rt; timer.is_due(now), due, "{start} and {length} at {now}");
+        assert_eq!(rt; since(start, now), gone, "{start} at {now}");
+    }
+}
+
+#[test]
+fn texts(rt: HostRuntime) -> Result<(), Fail> {
+    let alloc = rt.alloc();
+    let latency = Latency {
+        unit: LatencyUnit::Nanos,
+        nanos: 2,
+    };
+    assert_eq!(rt; latency.to_string(alloc)?.as_str(), "2 ns");
+    let rows: [(BodyError<u64>, &str); 2] = [
+        (
+            BodyError::Elapsed,
+            "data was not received within the designated timeout",
+        ),
+        (BodyError::Inner(7), "7"),
+    ];
+    for (fault, want) in rows {
+        assert_eq!(rt; fault.to_string(alloc)?.as_str(), want);
+    }
+    let text = Text::copy(alloc, "hi")?;
+    assert_eq!(rt; text.twin(alloc)?.as_str(), "hi");
+    let octets = Octets::copy(alloc, b"hi")?;
+    assert_eq!(rt; octets.twin(alloc)?.as_slice(), b"hi".as_slice());
+    let octets = Octets::from_vec(vec![in alloc; 1, 2]?);
+    assert_eq!(rt; octets.as_slice(), [1, 2].as_slice());
+    let span = Span::new(alloc, "request")?;
+    assert_eq!(rt; span.name().as_str(), "request");
+    Ok(())
+}
+
+#[test]
+fn lists(rt: HostRuntime) -> Result<(), Fail> {
+    let alloc = rt.alloc();
+    let mut list = List::new(alloc);
+    assert!(rt; list.is_empty());
+    for word in ["a", "b", "c"] {
+        list.push(Text::copy(alloc, word)?)?;
+    }
+    let last = list.pop().ok_or("no item")?;
+    assert_eq!(rt; last.as_str(), "c");
+    assert_eq!(rt; list.len(), 2);
+    list.reserve(1)?;
+    list.put_back(Text::copy(alloc, "d")?);
+    assert!(rt; list.get(3).is_none());
+    let twins = list.twin_items(alloc)?;
+    for list in [&list, &twins] {
+        for (item, want) in list.as_slice().iter().zip(["a", "b", "d"]) {
+            assert_eq!(rt; item.as_str(), want);
+        }
+        assert_eq!(rt; list.len(), 3);
+        assert_eq!(rt; list.get(2).ok_or("no item")?.as_str(), "d");
+    }
+    Ok(())
+}
+
+#[test]
+fn logs(rt: HostRuntime) -> Result<(), Fail> {
+    let mut log = Log::new(rt.alloc());
+    Recorder::reserve(&mut log, 2)?;
+    let latency = Latency {
+        unit: LatencyUnit::Nanos,
+        nanos: 2,
+    };
+    for what in [DropKind::Future, DropKind::Body(StatusCode::OK)] {
+        log.note(Event::Dropped { what, latency })?;
+    }
+    let events = log.take();
+    assert_eq!(rt; events.len(), 2);
+    let Some(Event::Dropped { what, latency }) = events.get(1) else {
+        panic!(rt; "no event");
+    };
+    assert!(rt; matches!(what, DropKind::Body(status) if status.as_u16() == 200));
+    assert_eq!(rt; latency.nanos, 2);
+    assert!(rt; log.take().is_empty());
+    Ok(())
+}
+
+/// The numbers of calls.
+fn calls(alloc: Global, numbers: &[u64]) -> Got<Calls> {
+    let mut calls = Calls::new(alloc);
+    for number in numbers {
+        calls.push(*number)?;
+    }
+    Ok(calls)
+}
+
+#[test]
+fn sources_in_memory(rt: HostRuntime) -> Result<(), Fail> {
+    let alloc = rt.alloc();
+    let bytes = Octets::copy(alloc, b"abcde")?;
+    let mut source = MemorySource::new(bytes, 2, calls(alloc, &[1])?);
+    let rows: [Option<&[u8]>; 5] = [Some(b"ab"), None, Some(b"cd"), Some(b"e"), Some(b"")];
+    for want in rows {
+        let mut piece = [0; 4];
+        let given = match source.read(&mut piece) {
+            Ok(count) => Some(&piece[..count]),
+            Err(Failed) => None,
+        };
+        assert_eq!(rt; given.is_some(), want.is_some());
+        assert_eq!(rt; given.unwrap_or(b""), want.unwrap_or(b""));
+    }
+    assert_eq!(rt; source.faults(), 1);
+    Ok(())
+}
+
+#[test]
+fn sinks_in_memory(rt: HostRuntime) -> Result<(), Fail> {
+    let alloc = rt.alloc();
+    let mut sink = MemorySink::new(alloc, 5, 3, calls(alloc, &[1])?)?;
+    let rows: [(&[u8], Option<usize>, &[u8]); 6] = [
+        (b"abcd", Some(3), b"abc"),
+        (b"d", None, b"abc"),
+        (b"d", Some(1), b"abcd"),
+        (b"ef", Some(1), b"abcde"),
+        (b"f", None, b"abcde"),
+        (b"", Some(0), b"abcde"),
+    ];
+    for (bytes, want, held) in rows {
+        let taken = sink.write(bytes).ok();
+        assert_eq!(rt; taken, want);
+        assert_eq!(rt; sink.held(), held);
+    }
+    assert_eq!(rt; sink.faults(), 2);
+    Ok(())
+}
+
+#[test]
+fn requests(rt: HostRuntime) {
+    let alloc = rt.alloc();
+    let request = Request::new(alloc, Nothing, 5u64);
+    assert_eq!(rt; request.method().as_str(), "GET");
+    assert_eq!(rt; request.uri().path(), "/");
+    assert!(rt; request.version() == Version::HTTP_11);
+    assert!(rt; request.headers().is_empty());
+    let Nothing = request.body();
+    let (head, body) = request.into_parts();
+    let request = Request::from_parts(head, body);
+    assert_eq!(rt; *request.ext(), 5);
+    let span = None;
+    let mut log = Log::new(alloc);
+    let mut cx = Cx {
+        now: 0,
+        span: &span,
+        alloc,
+        rec: &mut log,
+    };
+    let NoMemory = give_up_request(request, &mut cx);
+    assert!(rt; log.take().is_empty());
+}
+
+#[test]
+fn responses(rt: HostRuntime) {
+    let alloc = rt.alloc();
+    let response = Response::new(alloc, Nothing, 5u64);
+    assert_eq!(rt; response.status().as_u16(), 200);
+    assert!(rt; response.headers().is_empty());
+    assert_eq!(rt; *response.ext(), 5);
+    let Nothing = response.body();
+    let (head, body) = response.into_parts();
+    assert_eq!(rt; head.status().as_u16(), 200);
+    drop(head);
+    let head = ResponseHead::<u64>::bare(alloc, StatusCode::NOT_FOUND);
+    let response = Response::from_parts(head, body);
+    assert_eq!(rt; response.status().as_u16(), 404);
+    let (head, Nothing) = response.into_parts();
+    assert_eq!(rt; head.ext, 0);
+}

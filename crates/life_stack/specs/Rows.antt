@@ -1,0 +1,66 @@
+-- Worked scenarios: the table of the story, computed on each.
+use Rattle.std.specs.Prelude.{◌≡◌, refl, List, [], ◌∷◌, Bool, false, true}
+use Rattle.life_core.specs.declared.event.Event.{Event}
+use Rattle.life_core.specs.declared.event.Event.TheVariants as event
+use Rattle.life_core.specs.declared.event.DropKind.TheVariants as drop_kind
+use Rattle.life_core.specs.declared.latency.LatencyUnit.TheVariants.{Nanos}
+use Rattle.life_script.specs.ScriptView.{ScriptView}
+use Rattle.life_script.specs.ToldView.{TurnView}
+use Rattle.life_script.specs.declared.answer.Answer.{Answer}
+use Rattle.life_script.specs.declared.answer.Answer.TheVariants as ans
+use Rattle.life_script.specs.declared.answer.Seen.TheVariants as seen
+use Rattle.life_script.specs.declared.scenario.Act.TheVariants as act
+use Rattle.life_script.specs.declared.scenario.BodyItem.{BodyItem}
+use Rattle.life_script.specs.declared.scenario.BodyItem.TheVariants as body_item
+use Rattle.life_script.specs.declared.scenario.Limits.{Limits}
+use Rattle.life_script.specs.declared.scenario.Then.TheVariants as then_
+use Rattle.life_stack.specs.Story.{story}
+
+abbrev limits : Limits
+limits = record { timeout = 10; timeout_status = 408; body_deadline = 20 }
+
+-- a script that answers status 200 at its first poll
+abbrev ready : List BodyItem → ScriptView
+ready items = record { polls = record { then = then_.Respond (record { status = 200; body = items; tells = true }) } ∷ [] }
+
+-- a script that never answers
+abbrev silent : ScriptView
+silent = record { polls = [] }
+
+-- a script that answers status 201, with a body that waits and does not tell its end
+abbrev waiting : ScriptView
+waiting = record { polls = record { then = then_.Respond (record { status = 201; body = body_item.Pending ∷ []; tells = false }) } ∷ [] }
+
+-- a turn in which nothing is recorded
+abbrev quiet : Answer → TurnView
+quiet a = record { answer = a; events = [] }
+
+-- a turn with its events
+abbrev telling : Answer → List Event → TurnView
+telling a es = record { answer = a; events = es }
+
+read_to_its_end : story limits (ready (body_item.Chunk (104 ∷ 105 ∷ []) ∷ [])) ((0, act.Call) ∷ (3, act.Poll) ∷ (4, act.Poll) ∷ (5, act.Drop) ∷ []) 5
+    ≡ record {
+      turns = quiet ans.Called ∷ quiet (ans.Response 200 false) ∷ quiet (ans.Frame (seen.Chunk (104 ∷ 105 ∷ [])) true) ∷ quiet ans.Dropped ∷ [];
+      at_end = [];
+    }
+read_to_its_end = refl
+
+timed_out : story limits (ready []) ((0, act.Call) ∷ (10, act.Poll) ∷ []) 10
+    ≡ record { turns = quiet ans.Called ∷ quiet (ans.Response 408 true) ∷ []; at_end = [] }
+timed_out = refl
+
+never_answered : story limits silent ((7, act.Call) ∷ []) 9
+    ≡ record {
+      turns = quiet ans.Called ∷ [];
+      at_end = event.Dropped drop_kind.Future (record { unit = Nanos; nanos = 2 }) ∷ [];
+    }
+never_answered = refl
+
+dropped_while_it_waits : story limits waiting ((0, act.Call) ∷ (1, act.Poll) ∷ (6, act.Drop) ∷ []) 6
+    ≡ record {
+      turns = quiet ans.Called ∷ quiet (ans.Response 201 false)
+          ∷ telling ans.Dropped (event.Dropped (drop_kind.Body 201) (record { unit = Nanos; nanos = 6 }) ∷ []) ∷ [];
+      at_end = [];
+    }
+dropped_while_it_waits = refl

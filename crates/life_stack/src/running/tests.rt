@@ -1,0 +1,256 @@
+//! Whole runs, from words and bytes to a status and a text.
+use super::*;
+use crate::driving::drive;
+use life_core::{Calls, Got, MemorySink, MemorySource, Octets};
+use life_script::{answer_text, read_scenario};
+use std::process::Abort;
+use std::test::Fail;
+
+/// A script that answers status 200 and a body of one piece.
+const HI: &str = r#"[{"then":{"respond":{"status":200,"body":[{"data":"hi"}],"tells":true}}}]"#;
+
+/// Steps that read that body to its end.
+const READ: &str = r#"[[0,0,"call"],[3,0,"poll"],[4,0,"poll"],[5,0,"drop"]]"#;
+
+/// How a source gives bytes and a sink takes them: so many a call, and the calls of these numbers fail.
+#[derive(Clone, Copy)]
+struct Ends<'a> {
+    given: u64,
+    reads: &'a [u64],
+    taken: u64,
+    writes: &'a [u64],
+}
+
+/// Ends that move so many bytes a call, where these calls fail.
+fn ends_of<'a>(given: u64, reads: &'a [u64], taken: u64, writes: &'a [u64]) -> Ends<'a> {
+    Ends {
+        given,
+        reads,
+        taken,
+        writes,
+    }
+}
+
+fn calls(alloc: Global, numbers: &[u64]) -> Got<Calls> {
+    let mut calls = Calls::new(alloc);
+    for number in numbers {
+        calls.push(*number)?;
+    }
+    Ok(calls)
+}
+
+fn strings(alloc: Global, words: &[&str]) -> Got<Vec<String>> {
+    let mut strings = Vec::new(alloc);
+    for word in words {
+        strings.push(String::from_str(alloc, word)?)?;
+    }
+    Ok(strings)
+}
+
+/// A scenario with one request, a timeout of 10 and a deadline of 20.
+fn scenario(alloc: Global, polls: &str, steps: &str, end: u64) -> Got<String> {
+    let limits = r#"{"timeout":10,"timeout_status":408,"body_deadline":20}"#;
+    let text = format!(in alloc;
+        "{{\"version\":1,\"limits\":{limits},\"requests\":[{{\"polls\":{polls}}}],\"steps\":{steps},\"end\":{end}}}"
+    )?;
+    Ok(text)
+}
+
+/// Asserts how a run between these ends ends, and what the sink holds then.
+fn ends_with(
+    rt: &(impl Abort + AllocGlobal),
+    name: &str,
+    words: &[&str],
+    input: Octets,
+    ends: Ends<'_>,
+    want: (Status, &[u8]),
+) -> Got<()> {
+    let alloc = rt.alloc();
+    assert!(rt; 1 <= ends.given && 1 <= ends.taken);
+    let mut source = MemorySource::new(input, ends.given, calls(alloc, ends.reads)?);
+    let mut sink = MemorySink::new(alloc, 1000, ends.taken, calls(alloc, ends.writes)?)?;
+    let words = strings(alloc, words)?;
+    let status = run(alloc, words.as_slice(), &mut source, &mut sink);
+    assert_eq!(rt; status, want.0, "{name}");
+    assert_eq!(rt; sink.held(), want.1, "{name}");
+    Ok(())
+}
+
+/// Asserts the same of a run on these bytes, between all ends that never fail.
+fn always_ends_with(
+    rt: &(impl Abort + AllocGlobal),
+    name: &str,
+    input: &[u8],
+    want: (Status, &str),
+) -> Got<()> {
+    for given in [1, 7, 65536] {
+        for taken in [1, 16, 65536] {
+            let bytes = Octets::copy(rt.alloc(), input)?;
+            let ends = ends_of(given, &[], taken, &[]);
+            ends_with(
+                rt,
+                name,
+                &["drive"],
+                bytes,
+                ends,
+                (want.0, want.1.as_bytes()),
+            )?;
+        }
+    }
+    Ok(())
+}
+
+/// No clause says that a run is ever more than want of memory. These are.
+#[test]
+fn driven_scenarios(rt: HostRuntime) -> Result<(), Fail> {
+    let alloc = rt.alloc();
+    let rows = [
+        (
+            "read to its end",
+            HI,
+            READ,
+            5,
+            "step 0 at 0 request 0 call: called\nstep 1 at 3 request 0 poll: response 200 open {}\nstep 2 at 4 request 0 poll: data \"hi\" ended\nstep 3 at 5 request 0 drop: dropped\ntotal: 1 requests, 4 steps, end 5\n",
+        ),
+        (
+            "timed out",
+            r#"[{"then":{"respond":{"status":200,"body":[],"tells":true}}}]"#,
+            r#"[[0,0,"call"],[10,0,"poll"]]"#,
+            10,
+            "step 0 at 0 request 0 call: called\nstep 1 at 10 request 0 poll: response 408 ended {}\ntotal: 1 requests, 2 steps, end 10\n",
+        ),
+        (
+            "never answered",
+            "[]",
+            r#"[[7,0,"call"]]"#,
+            9,
+            "step 0 at 7 request 0 call: called\nend at 9 request 0\n  dropped future latency 2 ns\ntotal: 1 requests, 1 steps, end 9\n",
+        ),
+        (
+            "dropped while its body waits",
+            r#"[{"then":{"respond":{"status":201,"body":["pending"],"tells":false}}}]"#,
+            r#"[[0,0,"call"],[1,0,"poll"],[6,0,"drop"]]"#,
+            6,
+            "step 0 at 0 request 0 call: called\nstep 1 at 1 request 0 poll: response 201 open {}\nstep 2 at 6 request 0 drop: dropped\n  dropped body 201 latency 6 ns\ntotal: 1 requests, 3 steps, end 6\n",
+        ),
+    ];
+    for (name, polls, steps, end, want) in rows {
+        let text = scenario(alloc, polls, steps, end)?;
+        always_ends_with(&rt, name, text.as_bytes(), (Status::Done, want))?;
+    }
+    Ok(())
+}
+
+#[test]
+fn scenarios_that_are_not_driven(rt: HostRuntime) -> Result<(), Fail> {
+    let alloc = rt.alloc();
+    let rows = [
+        (
+            "a clock that goes back",
+            r#"[[5,0,"call"],[4,9,"call"]]"#,
+            4,
+            "refused: clock back at step 1\n",
+        ),
+        (
+            "a step of no request",
+            r#"[[5,0,"call"],[6,9,"call"]]"#,
+            7,
+            "refused: no request at step 1\n",
+        ),
+    ];
+    for (name, steps, end, want) in rows {
+        let text = scenario(alloc, "[]", steps, end)?;
+        always_ends_with(&rt, name, text.as_bytes(), (Status::Refused, want))?;
+    }
+    let good = scenario(alloc, HI, READ, 5)?;
+    let headers = good.replacen(alloc, "\"polls\"", "\"headers\":[],\"polls\"", 1)?;
+    let cut = good.as_bytes();
+    let cut = &cut[..cut.len().min(20)];
+    let rows = [
+        ("request headers", headers.as_bytes(), "not built\n"),
+        ("a cut text", cut, "bad scenario\n"),
+    ];
+    for (name, input, want) in rows {
+        always_ends_with(&rt, name, input, (Status::BadScenario, want))?;
+    }
+    Ok(())
+}
+
+#[test]
+fn faults_of_a_source_and_of_a_sink(rt: HostRuntime) -> Result<(), Fail> {
+    let alloc = rt.alloc();
+    let good = scenario(alloc, HI, READ, 5)?;
+    let fault = (Status::SourceFault, b"" as &[u8]);
+    let short = (Status::SinkFault, b"step 0 at 0 requ" as &[u8]);
+    let rows = [
+        ("the first read", ends_of(65536, &[0], 65536, &[]), fault),
+        (
+            "the first read of many",
+            ends_of(7, &[0], 65536, &[]),
+            fault,
+        ),
+        ("a read in mid-stream", ends_of(7, &[3], 65536, &[]), fault),
+        (
+            "a write in mid-stream",
+            ends_of(65536, &[], 16, &[1]),
+            short,
+        ),
+    ];
+    for (name, ends, want) in rows {
+        let input = Octets::copy(alloc, good.as_bytes())?;
+        ends_with(&rt, name, &["drive"], input, ends, want)?;
+    }
+    Ok(())
+}
+
+#[test]
+fn answers_before_anything_is_read_as_a_scenario(rt: HostRuntime) -> Result<(), Fail> {
+    let alloc = rt.alloc();
+    let usage = (Status::Usage, b"usage: drive\n" as &[u8]);
+    let cut = (Status::SinkFault, b"usage: drive" as &[u8]);
+    let unread = (Status::SourceFault, b"" as &[u8]);
+    let long = (Status::TooLong, b"input over 16777216 bytes\n" as &[u8]);
+    let unwritten = (Status::SinkFault, b"" as &[u8]);
+    let over = 16_777_217;
+    let rows: [(&str, &[&str], usize, &[u64], &[u64], (Status, &[u8])); 7] = [
+        ("no word", &[], 1, &[0], &[], usage),
+        ("a word more", &["drive", "x"], 1, &[0], &[], usage),
+        ("a capital", &["Drive"], 1, &[0], &[], usage),
+        ("usage cut short", &[], 1, &[], &[1], cut),
+        ("no read", &["drive"], 1, &[0], &[], unread),
+        ("too long", &["drive"], over, &[], &[], long),
+        ("unwritten", &["drive"], over, &[], &[0], unwritten),
+    ];
+    for (name, words, spaces, reads, writes, want) in rows {
+        let input = Octets::from_vec(vec![in alloc; b' '; spaces]?);
+        let ends = ends_of(65536, reads, 12, writes);
+        ends_with(&rt, name, words, input, ends, want)?;
+    }
+    Ok(())
+}
+
+#[test]
+fn drives_without_a_source(rt: HostRuntime) -> Result<(), Fail> {
+    let alloc = rt.alloc();
+    let text = scenario(alloc, HI, READ, 5)?;
+    let (limits, scenario) = read_scenario(alloc, text.as_bytes())?;
+    let report = drive(alloc, &limits, &scenario)?;
+    assert_eq!(rt; report.end(), 5);
+    assert_eq!(rt; report.steps().len(), 4);
+    assert!(rt; report.requests() == 1);
+    let told = report.told(0);
+    assert!(rt; told.at_end.is_empty());
+    let wants = [
+        "called",
+        "response 200 open {}",
+        "data \"hi\" ended",
+        "dropped",
+    ];
+    assert_eq!(rt; told.turns.len(), 4);
+    for (turn, want) in told.turns.as_slice().iter().zip(wants) {
+        let text = answer_text(alloc, &turn.answer)?;
+        assert_eq!(rt; text.as_slice(), want.as_bytes());
+        assert!(rt; turn.events.is_empty(), "{want}");
+    }
+    Ok(())
+}
