@@ -1,5 +1,5 @@
 -- Worked scenarios: the table of the story, computed on each.
-use Rattle.std.specs.Prelude.{◌≡◌, refl, List, [], ◌∷◌, Bool, false, true}
+use Rattle.std.specs.Prelude.{◌≡◌, refl, List, [], ◌∷◌, false, true}
 use Rattle.life_core.specs.declared.event.Event.{Event}
 use Rattle.life_core.specs.declared.event.Event.TheVariants as event
 use Rattle.life_core.specs.declared.event.DropKind.TheVariants as drop_kind

@@ -215,8 +215,9 @@ fn is_polled(rt: &impl Abort, answer: Got<Poll<Option<Result<Frame<u8>, u8>>>>) 
     }
 }
 
-/// What is noted where a body, whose request was called at 100, is polled once and then given up at 106.
-fn noted_of_body(rt: &(impl Abort + AllocGlobal), body: Pieces) -> Option<(u16, u64)> {
+/// Whether a body, whose request was called at 100, tells its end after one poll, and what is noted where
+/// it is given up at 106.
+fn one_poll(rt: &(impl Abort + AllocGlobal), body: Pieces) -> (bool, Option<(u16, u64)>) {
     let alloc = rt.alloc();
     let span = None;
     let mut log = Log::new(alloc);
@@ -244,31 +245,28 @@ fn noted_of_body(rt: &(impl Abort + AllocGlobal), body: Pieces) -> Option<(u16, 
     drop(head);
     cx.now = 104;
     is_polled(rt, body.poll_frame(&mut cx));
+    let ended = Body::<Log>::is_end_stream(&body);
     let hint = Body::<Log>::size_hint(&body);
     assert_eq!(rt; hint.upper(), None);
     cx.now = 106;
     let left = body.abandon(&mut cx);
     assert!(rt; left.is_ok());
-    noted(rt, &mut log)
+    (ended, noted(rt, &mut log))
 }
 
 #[test]
 fn bodies_are_noted_before_their_end(rt: HostRuntime) {
+    let early = (false, Some((200, 6)));
     let rows = [
-        ("with a frame left", 2, true, Some((200, 6))),
-        ("whose last frame told the end", 1, true, None),
-        (
-            "whose last frame did not tell the end",
-            1,
-            false,
-            Some((200, 6)),
-        ),
-        ("at its end from the start", 0, true, None),
-        ("that answered its end", 0, false, None),
+        ("with a frame left", 2, true, early),
+        ("whose last frame told the end", 1, true, (true, None)),
+        ("whose last frame did not tell the end", 1, false, early),
+        ("at its end from the start", 0, true, (true, None)),
+        ("that answered its end", 0, false, (false, None)),
     ];
     for (name, left, tells, want) in rows {
         let body = Pieces { left, tells };
-        assert_eq!(rt; noted_of_body(&rt, body), want, "a body {name}");
+        assert_eq!(rt; one_poll(&rt, body), want, "a body {name}");
     }
 }
 
