@@ -10,122 +10,124 @@ use Rattle.life_script.specs.declared.scenario.Step.{Step}
 use Rattle.life_script.specs.ScriptView.{ScenarioView}
 use Rattle.life_script.specs.Valid.{is_back, verdict_from, IsValid}
 
--- the verdict on one step and those after it, by cases
-after_good : (k : ℕ) (earlier : Option ℕ) (x : Step) (xs : List Step) (end : ℕ) → is_back earlier x.at ≡ false → x.request ≡ 0
-    → verdict_from k earlier (x ∷ xs) end ≡ verdict_from (k + 1) (Some x.at) xs end
-unfolding verdict_from
-after_good k earlier x xs end back request = rw (back, request) refl
+-- where there are r requests
+module _ (r : ℕ) where
+  -- the verdict on one step and those after it, by cases
+  after_good : (k : ℕ) (earlier : Option ℕ) (x : Step) (xs : List Step) (end : ℕ) → is_back earlier x.at ≡ false → x.request < r
+      → verdict_from r k earlier (x ∷ xs) end ≡ verdict_from r (k + 1) (Some x.at) xs end
+  unfolding verdict_from
+  after_good k earlier x xs end back request = rw back (grind (arith, common_steps, request))
 
-after_back : (k : ℕ) (earlier : Option ℕ) (x : Step) (xs : List Step) (end : ℕ) → is_back earlier x.at ≡ true → verdict_from k earlier (x ∷ xs) end ≡ Err (ClockBack k)
-unfolding verdict_from
-after_back k earlier x xs end back = rw back refl
+  after_back : (k : ℕ) (earlier : Option ℕ) (x : Step) (xs : List Step) (end : ℕ) → is_back earlier x.at ≡ true → verdict_from r k earlier (x ∷ xs) end ≡ Err (ClockBack k)
+  unfolding verdict_from
+  after_back k earlier x xs end back = rw back refl
 
-after_other : (k : ℕ) (earlier : Option ℕ) (x : Step) (xs : List Step) (end : ℕ) → is_back earlier x.at ≡ false → (x.request ≡ 0 → ⊥) → verdict_from k earlier (x ∷ xs) end ≡ Err (NoRequest k)
-unfolding verdict_from
-after_other k earlier x xs end back request = rw back (grind (arith, common_steps))
+  after_other : (k : ℕ) (earlier : Option ℕ) (x : Step) (xs : List Step) (end : ℕ) → is_back earlier x.at ≡ false → (x.request < r → ⊥) → verdict_from r k earlier (x ∷ xs) end ≡ Err (NoRequest k)
+  unfolding verdict_from
+  after_other k earlier x xs end back request = rw back (grind (arith, common_steps))
 
--- the verdict on step k and those after it
-verdict_at : (xs : List Step) (k : ℕ) (d : Step) (earlier : Option ℕ) (end : ℕ) → k < length xs
-    → verdict_from k earlier (drop k xs) end ≡ verdict_from k earlier (get_or xs k d ∷ drop (k + 1) xs) end
-verdict_at xs k d earlier end lt = ap (λ (l : List Step). verdict_from k earlier l end) (rw add-one (drop-cons xs k d lt))
+  -- the verdict on step k and those after it
+  verdict_at : (xs : List Step) (k : ℕ) (d : Step) (earlier : Option ℕ) (end : ℕ) → k < length xs
+      → verdict_from r k earlier (drop k xs) end ≡ verdict_from r k earlier (get_or xs k d ∷ drop (k + 1) xs) end
+  verdict_at xs k d earlier end lt = ap (λ (l : List Step). verdict_from r k earlier l end) (rw add-one (drop-cons xs k d lt))
 
--- a step in order, of the request that there is, leaves the verdict to those after it
-pub passed : (xs : List Step) (k : ℕ) (d : Step) (earlier : Option ℕ) (end : ℕ) (whole : Result Unit DriveError) → k < length xs
-    → is_back earlier (get_or xs k d).at ≡ false → (get_or xs k d).request ≡ 0 → verdict_from k earlier (drop k xs) end ≡ whole
-    → verdict_from (k + 1) (Some (get_or xs k d).at) (drop (k + 1) xs) end ≡ whole
-passed xs k d earlier end whole lt back request h =
-    sym (after_good k earlier (get_or xs k d) (drop (k + 1) xs) end back request) ∙ (sym (verdict_at xs k d earlier end lt) ∙ h)
+  -- a step in order, of a request that there is, leaves the verdict to those after it
+  pub passed : (xs : List Step) (k : ℕ) (d : Step) (earlier : Option ℕ) (end : ℕ) (whole : Result Unit DriveError) → k < length xs
+      → is_back earlier (get_or xs k d).at ≡ false → (get_or xs k d).request < r → verdict_from r k earlier (drop k xs) end ≡ whole
+      → verdict_from r (k + 1) (Some (get_or xs k d).at) (drop (k + 1) xs) end ≡ whole
+  passed xs k d earlier end whole lt back request h =
+      sym (after_good k earlier (get_or xs k d) (drop (k + 1) xs) end back request) ∙ (sym (verdict_at xs k d earlier end lt) ∙ h)
 
--- a step that is earlier than the one before it decides
-pub stopped_back : (xs : List Step) (k : ℕ) (d : Step) (earlier : Option ℕ) (end : ℕ) (whole : Result Unit DriveError) → k < length xs
-    → is_back earlier (get_or xs k d).at ≡ true → verdict_from k earlier (drop k xs) end ≡ whole → Err (ClockBack k) ≡ whole
-stopped_back xs k d earlier end whole lt back h =
-    sym (after_back k earlier (get_or xs k d) (drop (k + 1) xs) end back) ∙ (sym (verdict_at xs k d earlier end lt) ∙ h)
+  -- a step that is earlier than the one before it decides
+  pub stopped_back : (xs : List Step) (k : ℕ) (d : Step) (earlier : Option ℕ) (end : ℕ) (whole : Result Unit DriveError) → k < length xs
+      → is_back earlier (get_or xs k d).at ≡ true → verdict_from r k earlier (drop k xs) end ≡ whole → Err (ClockBack k) ≡ whole
+  stopped_back xs k d earlier end whole lt back h =
+      sym (after_back k earlier (get_or xs k d) (drop (k + 1) xs) end back) ∙ (sym (verdict_at xs k d earlier end lt) ∙ h)
 
--- a step in order of another request decides
-pub stopped_request : (xs : List Step) (k : ℕ) (d : Step) (earlier : Option ℕ) (end : ℕ) (whole : Result Unit DriveError) → k < length xs
-    → is_back earlier (get_or xs k d).at ≡ false → ((get_or xs k d).request ≡ 0 → ⊥) → verdict_from k earlier (drop k xs) end ≡ whole → Err (NoRequest k) ≡ whole
-stopped_request xs k d earlier end whole lt back request h =
-    sym (after_other k earlier (get_or xs k d) (drop (k + 1) xs) end back request) ∙ (sym (verdict_at xs k d earlier end lt) ∙ h)
+  -- a step in order of a request that there is not decides
+  pub stopped_request : (xs : List Step) (k : ℕ) (d : Step) (earlier : Option ℕ) (end : ℕ) (whole : Result Unit DriveError) → k < length xs
+      → is_back earlier (get_or xs k d).at ≡ false → ((get_or xs k d).request < r → ⊥) → verdict_from r k earlier (drop k xs) end ≡ whole → Err (NoRequest k) ≡ whole
+  stopped_request xs k d earlier end whole lt back request h =
+      sym (after_other k earlier (get_or xs k d) (drop (k + 1) xs) end back request) ∙ (sym (verdict_at xs k d earlier end lt) ∙ h)
 
--- past the last step the end decides
-ended : (xs : List Step) (k : ℕ) (earlier : Option ℕ) (end : ℕ) → length xs ≤ k → verdict_from k earlier (drop k xs) end ≡ verdict_from k earlier [] end
-ended xs k earlier end le = ap (λ (l : List Step). verdict_from k earlier l end) (drop_of_length-le xs le)
+  -- past the last step the end decides
+  ended : (xs : List Step) (k : ℕ) (earlier : Option ℕ) (end : ℕ) → length xs ≤ k → verdict_from r k earlier (drop k xs) end ≡ verdict_from r k earlier [] end
+  ended xs k earlier end le = ap (λ (l : List Step). verdict_from r k earlier l end) (drop_of_length-le xs le)
 
-end_back : (k : ℕ) (earlier : Option ℕ) (end : ℕ) → is_back earlier end ≡ true → verdict_from k earlier [] end ≡ Err (ClockBack k)
-unfolding verdict_from
-end_back k earlier end back = rw back refl
+  end_back : (k : ℕ) (earlier : Option ℕ) (end : ℕ) → is_back earlier end ≡ true → verdict_from r k earlier [] end ≡ Err (ClockBack k)
+  unfolding verdict_from
+  end_back k earlier end back = rw back refl
 
-end_good : (k : ℕ) (earlier : Option ℕ) (end : ℕ) → is_back earlier end ≡ false → verdict_from k earlier [] end ≡ Ok tt
-unfolding verdict_from
-end_good k earlier end back = rw back refl
+  end_good : (k : ℕ) (earlier : Option ℕ) (end : ℕ) → is_back earlier end ≡ false → verdict_from r k earlier [] end ≡ Ok tt
+  unfolding verdict_from
+  end_good k earlier end back = rw back refl
 
--- an end that is earlier than the last step is what is wrong
-pub ended_back : (xs : List Step) (k : ℕ) (earlier : Option ℕ) (end : ℕ) (whole : Result Unit DriveError) → k ≤ length xs → length xs ≤ k
-    → is_back earlier end ≡ true → verdict_from k earlier (drop k xs) end ≡ whole → Err (ClockBack (length xs)) ≡ whole
-ended_back xs k earlier end whole le ge back h =
-    let same : k ≡ length xs = omega arith in
-    ap (λ (n : ℕ). Err (ClockBack n)) (sym same) ∙ (sym (end_back k earlier end back) ∙ (sym (ended xs k earlier end ge) ∙ h))
+  -- an end that is earlier than the last step is what is wrong
+  pub ended_back : (xs : List Step) (k : ℕ) (earlier : Option ℕ) (end : ℕ) (whole : Result Unit DriveError) → k ≤ length xs → length xs ≤ k
+      → is_back earlier end ≡ true → verdict_from r k earlier (drop k xs) end ≡ whole → Err (ClockBack (length xs)) ≡ whole
+  ended_back xs k earlier end whole le ge back h =
+      let same : k ≡ length xs = omega arith in
+      ap (λ (n : ℕ). Err (ClockBack n)) (sym same) ∙ (sym (end_back k earlier end back) ∙ (sym (ended xs k earlier end ge) ∙ h))
 
--- with an end in order nothing is wrong
-pub ended_good : (xs : List Step) (k : ℕ) (earlier : Option ℕ) (end : ℕ) (whole : Result Unit DriveError) → length xs ≤ k
-    → is_back earlier end ≡ false → verdict_from k earlier (drop k xs) end ≡ whole → Ok tt ≡ whole
-ended_good xs k earlier end whole ge back h = sym (end_good k earlier end back) ∙ (sym (ended xs k earlier end ge) ∙ h)
+  -- with an end in order nothing is wrong
+  pub ended_good : (xs : List Step) (k : ℕ) (earlier : Option ℕ) (end : ℕ) (whole : Result Unit DriveError) → length xs ≤ k
+      → is_back earlier end ≡ false → verdict_from r k earlier (drop k xs) end ≡ whole → Ok tt ≡ whole
+  ended_good xs k earlier end whole ge back h = sym (end_good k earlier end back) ∙ (sym (ended xs k earlier end ge) ∙ h)
 
--- what a good verdict says of its first step: it is in order, of the request that there is, and those after it are good
-first_good : (n : ℕ) (earlier : Option ℕ) (x : Step) (xs : List Step) (end : ℕ) → verdict_from n earlier (x ∷ xs) end ≡ Ok tt
-    → (is_back earlier x.at ≡ false) × (x.request ≡ 0) × (verdict_from (n + 1) (Some x.at) xs end ≡ Ok tt)
-unfolding verdict_from
-first_good n earlier x xs end h = grind (arith, common_steps, h)
+  -- what a good verdict says of its first step: it is in order, of a request that there is, and those after it are good
+  first_good : (n : ℕ) (earlier : Option ℕ) (x : Step) (xs : List Step) (end : ℕ) → verdict_from r n earlier (x ∷ xs) end ≡ Ok tt
+      → (is_back earlier x.at ≡ false) × (x.request < r) × (verdict_from r (n + 1) (Some x.at) xs end ≡ Ok tt)
+  unfolding verdict_from
+  first_good n earlier x xs end h = grind (arith, common_steps, h)
 
-end_in_order : (n earlier end : ℕ) → verdict_from n (Some earlier) [] end ≡ Ok tt → earlier ≤ end
-unfolding verdict_from
-end_in_order n earlier end h = grind (arith, common_steps, h)
+  end_in_order : (n earlier end : ℕ) → verdict_from r n (Some earlier) [] end ≡ Ok tt → earlier ≤ end
+  unfolding verdict_from
+  end_in_order n earlier end h = grind (arith, common_steps, h)
 
-not_back : (earlier now : ℕ) → is_back (Some earlier) now ≡ false → earlier ≤ now
-not_back earlier now h = grind (arith, common_steps, h)
+  not_back : (earlier now : ℕ) → is_back (Some earlier) now ≡ false → earlier ≤ now
+  not_back earlier now h = grind (arith, common_steps, h)
 
-requests_from : (n : ℕ) (earlier : Option ℕ) (xs : List Step) (end : ℕ) → verdict_from n earlier xs end ≡ Ok tt → (k : ℕ) (x : Step) → slice_get xs k ≡ Some x → x.request ≡ 0
-requests_from n earlier [] end h k x is = absurd (cc)
-requests_from n earlier (y ∷ ys) end h zero x is = let good = first_good n earlier y ys end h in cc
-requests_from n earlier (y ∷ ys) end h (suc k) x is = requests_from (n + 1) (Some y.at) ys end (first_good n earlier y ys end h).2 k x is
+  requests_from : (n : ℕ) (earlier : Option ℕ) (xs : List Step) (end : ℕ) → verdict_from r n earlier xs end ≡ Ok tt → (k : ℕ) (x : Step) → slice_get xs k ≡ Some x → x.request < r
+  requests_from n earlier [] end h k x is = absurd (cc)
+  requests_from n earlier (y ∷ ys) end h zero x is = let good = first_good n earlier y ys end h in let same : y ≡ x = cc in subst (λ (z : Step). z.request < r) same good.1
+  requests_from n earlier (y ∷ ys) end h (suc k) x is = requests_from (n + 1) (Some y.at) ys end (first_good n earlier y ys end h).2 k x is
 
--- no step is below the earlier time
-later_than : (n earlier : ℕ) (xs : List Step) (end : ℕ) → verdict_from n (Some earlier) xs end ≡ Ok tt → (k : ℕ) (x : Step) → slice_get xs k ≡ Some x → earlier ≤ x.at
-later_than n earlier [] end h k x is = absurd (cc)
-later_than n earlier (y ∷ ys) end h zero x is =
-    let good = first_good n (Some earlier) y ys end h in let le = not_back earlier y.at good.0 in let same : y ≡ x = cc in subst (λ (z : Step). earlier ≤ z.at) same le
-later_than n earlier (y ∷ ys) end h (suc k) x is =
-    let good = first_good n (Some earlier) y ys end h in let le = not_back earlier y.at good.0 in let more = later_than (n + 1) y.at ys end good.2 k x is in omega arith
+  -- no step is below the earlier time
+  later_than : (n earlier : ℕ) (xs : List Step) (end : ℕ) → verdict_from r n (Some earlier) xs end ≡ Ok tt → (k : ℕ) (x : Step) → slice_get xs k ≡ Some x → earlier ≤ x.at
+  later_than n earlier [] end h k x is = absurd (cc)
+  later_than n earlier (y ∷ ys) end h zero x is =
+      let good = first_good n (Some earlier) y ys end h in let le = not_back earlier y.at good.0 in let same : y ≡ x = cc in subst (λ (z : Step). earlier ≤ z.at) same le
+  later_than n earlier (y ∷ ys) end h (suc k) x is =
+      let good = first_good n (Some earlier) y ys end h in let le = not_back earlier y.at good.0 in let more = later_than (n + 1) y.at ys end good.2 k x is in omega arith
 
--- the end is not below the earlier time
-end_later : (n earlier : ℕ) (xs : List Step) (end : ℕ) → verdict_from n (Some earlier) xs end ≡ Ok tt → earlier ≤ end
-end_later n earlier [] end h = end_in_order n earlier end h
-end_later n earlier (y ∷ ys) end h =
-    let good = first_good n (Some earlier) y ys end h in let le = not_back earlier y.at good.0 in let more = end_later (n + 1) y.at ys end good.2 in omega arith
+  -- the end is not below the earlier time
+  end_later : (n earlier : ℕ) (xs : List Step) (end : ℕ) → verdict_from r n (Some earlier) xs end ≡ Ok tt → earlier ≤ end
+  end_later n earlier [] end h = end_in_order n earlier end h
+  end_later n earlier (y ∷ ys) end h =
+      let good = first_good n (Some earlier) y ys end h in let le = not_back earlier y.at good.0 in let more = end_later (n + 1) y.at ys end good.2 in omega arith
 
-order_from : (n : ℕ) (earlier : Option ℕ) (xs : List Step) (end : ℕ) → verdict_from n earlier xs end ≡ Ok tt
-    → (j k : ℕ) (x y : Step) → j ≤ k → slice_get xs j ≡ Some x → slice_get xs k ≡ Some y → x.at ≤ y.at
-order_from n earlier [] end h j k x y le first second = absurd (cc)
-order_from n earlier (z ∷ zs) end h zero zero x y le first second = let same : x ≡ y = cc in subst (λ (w : Step). x.at ≤ w.at) same (omega arith)
-order_from n earlier (z ∷ zs) end h zero (suc k) x y le first second =
-    let same : z ≡ x = cc in subst (λ (w : Step). w.at ≤ y.at) same (later_than (n + 1) z.at zs end (first_good n earlier z zs end h).2 k y second)
-order_from n earlier (z ∷ zs) end h (suc j) zero x y le first second = absurd (omega arith)
-order_from n earlier (z ∷ zs) end h (suc j) (suc k) x y le first second =
-    order_from (n + 1) (Some z.at) zs end (first_good n earlier z zs end h).2 j k x y (omega arith) first second
+  order_from : (n : ℕ) (earlier : Option ℕ) (xs : List Step) (end : ℕ) → verdict_from r n earlier xs end ≡ Ok tt
+      → (j k : ℕ) (x y : Step) → j ≤ k → slice_get xs j ≡ Some x → slice_get xs k ≡ Some y → x.at ≤ y.at
+  order_from n earlier [] end h j k x y le first second = absurd (cc)
+  order_from n earlier (z ∷ zs) end h zero zero x y le first second = let same : x ≡ y = cc in subst (λ (w : Step). x.at ≤ w.at) same (omega arith)
+  order_from n earlier (z ∷ zs) end h zero (suc k) x y le first second =
+      let same : z ≡ x = cc in subst (λ (w : Step). w.at ≤ y.at) same (later_than (n + 1) z.at zs end (first_good n earlier z zs end h).2 k y second)
+  order_from n earlier (z ∷ zs) end h (suc j) zero x y le first second = absurd (omega arith)
+  order_from n earlier (z ∷ zs) end h (suc j) (suc k) x y le first second =
+      order_from (n + 1) (Some z.at) zs end (first_good n earlier z zs end h).2 j k x y (omega arith) first second
 
-ends_from : (n : ℕ) (earlier : Option ℕ) (xs : List Step) (end : ℕ) → verdict_from n earlier xs end ≡ Ok tt → (k : ℕ) (x : Step) → slice_get xs k ≡ Some x → x.at ≤ end
-ends_from n earlier [] end h k x is = absurd (cc)
-ends_from n earlier (y ∷ ys) end h zero x is =
-    let same : y ≡ x = cc in subst (λ (w : Step). w.at ≤ end) same (end_later (n + 1) y.at ys end (first_good n earlier y ys end h).2)
-ends_from n earlier (y ∷ ys) end h (suc k) x is = ends_from (n + 1) (Some y.at) ys end (first_good n earlier y ys end h).2 k x is
+  ends_from : (n : ℕ) (earlier : Option ℕ) (xs : List Step) (end : ℕ) → verdict_from r n earlier xs end ≡ Ok tt → (k : ℕ) (x : Step) → slice_get xs k ≡ Some x → x.at ≤ end
+  ends_from n earlier [] end h k x is = absurd (cc)
+  ends_from n earlier (y ∷ ys) end h zero x is =
+      let same : y ≡ x = cc in subst (λ (w : Step). w.at ≤ end) same (end_later (n + 1) y.at ys end (first_good n earlier y ys end h).2)
+  ends_from n earlier (y ∷ ys) end h (suc k) x is = ends_from (n + 1) (Some y.at) ys end (first_good n earlier y ys end h).2 k x is
 
--- each step of a valid scenario is of the one request
-pub valid_requests : (s : ScenarioView) → IsValid s → (k : ℕ) (x : Step) → slice_get s.steps k ≡ Some x → x.request ≡ 0
-valid_requests s valid = requests_from 0 None s.steps s.end valid
+-- each step of a valid scenario is of a request that there is
+pub valid_requests : (s : ScenarioView) → IsValid s → (k : ℕ) (x : Step) → slice_get s.steps k ≡ Some x → x.request < length s.requests
+valid_requests s valid = requests_from (length s.requests) 0 None s.steps s.end valid
 
 -- the steps of a valid scenario are in the order of their times, and none is past the end
 pub valid_order : (s : ScenarioView) → IsValid s
     → ((j k : ℕ) (x y : Step) → j ≤ k → slice_get s.steps j ≡ Some x → slice_get s.steps k ≡ Some y → x.at ≤ y.at)
     × ((k : ℕ) (x : Step) → slice_get s.steps k ≡ Some x → x.at ≤ s.end)
-valid_order s valid = (order_from 0 None s.steps s.end valid, ends_from 0 None s.steps s.end valid)
+valid_order s valid = (order_from (length s.requests) 0 None s.steps s.end valid, ends_from (length s.requests) 0 None s.steps s.end valid)

@@ -65,14 +65,6 @@ unfoldable pub all_of : {A : Type 0} → (Data → Read A) → List Data → Rea
 all_of f [] = Good []
 all_of f (d ∷ ds) = read_both (λ a xs. a ∷ xs) (f d) (all_of f ds)
 
--- the one part of a list; another count is not built yet
-abbrev pub only_one : {A : Type 0} → Read (List A) → Read A
-only_one Bad = Bad
-only_one Unbuilt = Unbuilt
-only_one (Good []) = Unbuilt
-only_one (Good (a ∷ [])) = Good a
-only_one (Good (a ∷ b ∷ xs)) = Unbuilt
-
 -- ---- values
 
 -- whether an object has this key
@@ -197,15 +189,11 @@ script_part d = unbuilt_if (has_unbuilt_request d) (read_map (λ polls. record {
 abbrev pub is_version_1 : Data → Bool
 is_version_1 d = unwrap_or (option_map (λ n. n == 1) (number_at (codes "version") d)) false
 
--- the script of the one request
-abbrev pub request_part : Data → Read ScriptView
-request_part d = only_one (all_at script_part (codes "requests") d)
-
--- the script, the steps and the end
+-- the scripts, the steps and the end
 abbrev pub scenario_part : Data → Read ScenarioView
 scenario_part d =
     needs (number_at (codes "end") d) (λ end.
-    read_both (λ request steps. record { request = request; steps = steps; end = end }) (request_part d) (all_at step_part (codes "steps") d))
+    read_both (λ requests steps. record { requests = requests; steps = steps; end = end }) (all_at script_part (codes "requests") d) (all_at step_part (codes "steps") d))
 
 -- what the tree of a text says
 abbrev pub shape : Data → Read (Limits × ScenarioView)

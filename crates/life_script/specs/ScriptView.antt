@@ -7,6 +7,6 @@ pub record ScriptView : Type 0 where
   pub polls : List PollItem
 
 pub record ScenarioView : Type 0 where
-  pub request : ScriptView
+  pub requests : List ScriptView
   pub steps : List Step
   pub end : ℕ

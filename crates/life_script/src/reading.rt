@@ -1,7 +1,7 @@
 //! Scenarios read from bytes.
 ghost use Rattle.std.specs.Prelude.{◌≡◌, IfOk};
 ghost use Rattle.serde_json.specs.View.{view};
-ghost use Rattle.life_script.specs.Reading.{Bad, built, Reads, IsBadScenario, IsNotBuilt, is_version_1, request_part, scenario_part, shape};
+ghost use Rattle.life_script.specs.Reading.{Bad, built, Reads, IsBadScenario, IsNotBuilt, is_version_1, scenario_part, shape};
 
 mod client;
 mod fields;
@@ -75,29 +75,16 @@ fn read_parts(alloc: Global, top: &Value) -> Built<Scenario>
     let Some(end) = number_at(top, "end") else {
         return Err(ReadError::BadScenario);
     };
-    let request = read_request(alloc, top)?;
+    let requests = read_all_at::<Script>(alloc, top, "requests")?;
     let steps = read_all_at::<Step>(alloc, top, "steps")?;
-    match (request, steps) {
-        (Some(request), Some(steps)) => Ok(Some(Scenario {
-            request,
+    match (requests, steps) {
+        (Some(requests), Some(steps)) => Ok(Some(Scenario {
+            requests,
             steps,
             end,
         })),
         _ => Ok(None),
     }
-}
-
-/// Reads the requests, of which one is built.
-fn read_request(alloc: Global, top: &Value) -> Built<Script>
-    ensures ok { IfOk result (λ s. request_part (view top.now) ≡ built s) }
-    ensures bad { result ≡ Err ReadError.BadScenario → request_part (view top.now) ≡ Bad }
-    ensures never { ¬ (result ≡ Err ReadError.NotBuilt) }
-{
-    let Some(mut requests) = read_all_at::<Script>(alloc, top, "requests")? else {
-        return Ok(None);
-    };
-    let last = requests.pop();
-    Ok(if requests.is_empty() { last } else { None })
 }
 
 #[cfg(test)]

@@ -1,4 +1,4 @@
-//! What is asked: the limits of the stack, the script of the service and the steps of its client.
+//! What is asked: the limits of the stack, the scripts of the service and the steps of its client.
 ghost use Rattle.std.specs.Prelude.{◌≡◌, IfOk};
 
 use http::StatusCode;
@@ -113,6 +113,9 @@ impl Twin for Script {
     }
 }
 
+/// The scripts of the requests, in the order of their numbers.
+pub type Scripts = List<Script>;
+
 /// What a client does with a request.
 #[derive(Clone, Copy, Debug)]
 pub enum Act {
@@ -138,10 +141,10 @@ impl Twin for Step {
 /// Steps in the order in which they are made.
 pub type Steps = List<Step>;
 
-/// The request that is made, the steps and the time of the end, in nanoseconds.
+/// The requests that are made, the steps and the time of the end, in nanoseconds.
 #[derive(Debug, Drop)]
 pub struct Scenario {
-    pub request: Script,
+    pub requests: Scripts,
     pub steps: Steps,
     pub end: u64,
 }
@@ -151,5 +154,5 @@ impl Model for Scenario {
 
     ghost Value = { ScenarioView };
 
-    ghost view = { λ s. record { request = s.request; steps = s.steps.items; end = s.end } };
+    ghost view = { λ s. record { requests = s.requests.items; steps = s.steps.items; end = s.end } };
 }

@@ -5,9 +5,11 @@ pub mod Drops
 pub mod Endings
 pub mod Heads
 pub mod Pieces
+pub mod Places
 pub mod ReportLemmas
 pub mod Reports
 pub mod Runs
 pub mod ScriptFollows
+pub mod Sessions
 pub mod Shows
 pub mod Steps

@@ -1,16 +1,14 @@
 -- How the lines of steps and of ends grow, and that each step has its turn.
-use Rattle.std.proofs.Common.{zero, suc, true, ◌≡◌, ℕ, ◌+◌, ◌<◌, ◌≤◌, false, List, [], ◌∷◌, ◌++◌, length, take, drop, get_or, Some, inl, inr, cond, sym, refl, ap, subst, ◌∙◌, arith, add-one, append_assoc, append-nil}
+use Rattle.std.proofs.Common.{◌≡◌, ℕ, ◌+◌, ◌<◌, ◌≤◌, false, List, [], ◌∷◌, ◌++◌, length, take, drop, get_or, Some, inl, inr, cond, sym, refl, ap, subst, ◌∙◌, arith, add-one, append_assoc, append-nil}
 use Rattle.std.specs.Prelude.{IsSome, slice_get, ◌==◌}
-use Rattle.std.specs.List.{list_all}
 use Rattle.std.proofs.Math.ListN.{set, drop_of_length-le}
 use Rattle.std.proofs.Math.Seq.{drop-cons}
 use Rattle.std.proofs.lemmas.Bool.Decides.{eqb_tells}
-use Rattle.std.proofs.lemmas.Bool.{eq-eqb, eqb-true}
+use Rattle.std.proofs.lemmas.Bool.{eq-eqb}
 use Rattle.std.proofs.lemmas.Grind.{get_or_default_zero}
 use Rattle.std.proofs.lemmas.List.{take_more, length-take-le, get_or-set_same, get_or-set_other}
-use Rattle.std.proofs.lemmas.List.Sums.{count_by_more_yes, count_by_more_no, count_by-le-length, sum_by-take-le, sum_by-cons, AllPass-from_list_all}
-use Rattle.std.proofs.lemmas.Option.{slice_get-get_or, slice_get_within, get_or_from_slice_get}
-use Rattle.std.proofs.lemmas.List.Elements.{All-get_or}
+use Rattle.std.proofs.lemmas.List.Sums.{count_by_more_yes, count_by_more_no, count_by-le-length, sum_by-take-le}
+use Rattle.std.proofs.lemmas.Option.{slice_get-get_or}
 use Rattle.life_script.specs.declared.answer.Answer.TheVariants.{Called}
 use Rattle.life_script.specs.declared.scenario.Step.{Step}
 use Rattle.life_script.specs.ToldView.{ToldView, TurnView}
@@ -137,30 +135,3 @@ pub ends_done : (end : ℕ) (told : List ToldView) (i : ℕ) (now all : List ℕ
 unfolding ends_lines
 ends_done end told i now all le h =
     sym (append-nil now) ∙ (sym (ap (λ (l : List ToldView). now ++ ends_lines end i l) (drop_of_length-le told le)) ∙ h)
-
-all_of : (xs : List Step) → ((k : ℕ) (x : Step) → slice_get xs k ≡ Some x → x.request ≡ 0) → steps_of 0 xs ≡ length xs
-all_of [] zeros = refl
-all_of (x ∷ xs) zeros =
-    let first : (x.request == 0) ≡ true = eq-eqb x.request 0 (zeros zero x refl) in
-    let more : steps_of 0 xs ≡ length xs = all_of xs (λ k y is. zeros (suc k) y is) in
-    sum_by-cons (λ (y : Step). cond (y.request == 0) 1 0) x xs ∙ rw (first, more) (omega arith)
-
-one_turns : (t : ToldView) (xs : List Step) → length t.turns ≡ steps_of 0 xs → (i : ℕ) (u : ToldView) → slice_get (t ∷ []) i ≡ Some u → length u.turns ≡ steps_of i xs
-one_turns t xs all zero u is = let here : t ≡ u = cc in subst (λ (v : ToldView). length v.turns ≡ steps_of 0 xs) here all
-one_turns t xs all (suc i) u is = absurd (cc)
-
--- one request, of which all steps are, with a turn for each
-pub fits_one : (t : ToldView) (xs : List Step) → ((k : ℕ) (x : Step) → slice_get xs k ≡ Some x → x.request ≡ 0) → length t.turns ≡ length xs → Fits (t ∷ []) xs
-fits_one t xs zeros same = record {
-  requests = λ k x is. let zero_is = zeros k x is in omega arith;
-  turns = one_turns t xs (same ∙ sym (all_of xs zeros));
-}
-
-each_first : (xs : List Step) (k : ℕ) (x : Step) → list_all (λ (y : Step). y.request == 0) xs ≡ true → slice_get xs k ≡ Some x → (x.request == 0) ≡ true
-each_first xs k x first is =
-    subst (λ (y : Step). (y.request == 0) ≡ true) (get_or_from_slice_get xs k x x is)
-    (All-get_or (λ (y : Step). (y.request == 0) ≡ true) xs k x (slice_get_within xs k x is) (AllPass-from_list_all (λ (y : Step). y.request == 0) xs first))
-
--- the same by a test of each step
-pub fits_first : (t : ToldView) (xs : List Step) → list_all (λ (x : Step). x.request == 0) xs ≡ true → length t.turns ≡ length xs → Fits (t ∷ []) xs
-fits_first t xs first same = fits_one t xs (λ k x is. eqb-true x.request 0 (each_first xs k x first is)) same

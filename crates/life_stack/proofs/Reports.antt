@@ -1,6 +1,7 @@
--- The report of a valid scenario fits its steps, and has the early drops of the table.
-use Rattle.std.proofs.Common.{◌≡◌, ℕ, zero, suc, List, [], ◌∷◌, ◌++◌, length, Some, refl, sym, ap, ◌∙◌}
-use Rattle.std.specs.Prelude.{slice_get}
+-- The report of a valid scenario fits its steps, and has the stories and the early drops of the table.
+use Rattle.std.proofs.Common.{◌≡◌, ℕ, zero, suc, ◌+◌, List, [], ◌∷◌, ◌++◌, length, Bool, true, false, cond, Option, Some, refl, sym, ap, ◌∙◌, arith}
+use Rattle.std.proofs.lemmas.List.Sums.{sum_by-cons}
+use Rattle.std.specs.Prelude.{slice_get, if◌then◌else◌, ◌==◌}
 use Rattle.life_script.proofs.CheckLemmas.{valid_requests}
 use Rattle.life_script.specs.ScriptView.{ScriptView, ScenarioView}
 use Rattle.life_script.specs.ToldView.{ToldView}
@@ -8,10 +9,9 @@ use Rattle.life_script.specs.Valid.{IsValid}
 use Rattle.life_script.specs.declared.scenario.Limits.{Limits}
 use Rattle.life_script.specs.declared.scenario.Step.{Step}
 use Rattle.life_stack.proofs.Drops.{drops_once}
-use Rattle.life_stack.proofs.ReportLemmas.{fits_one}
-use Rattle.life_stack.specs.Drive.{report_of}
+use Rattle.life_stack.specs.Drive.{report_of, stories}
 use Rattle.life_stack.specs.Own.{Own, own, dropped_at, drop_time}
-use Rattle.life_stack.specs.ReportView.{Fits}
+use Rattle.life_stack.specs.ReportView.{Fits, steps_of}
 use Rattle.life_stack.specs.Story.{story, turns_after, drops, drop_records}
 
 -- each act has a turn
@@ -19,17 +19,56 @@ turns_count : (limits : Limits) (script : ScriptView) (before acts : List Own) �
 turns_count limits script before [] = refl
 turns_count limits script before (x ∷ acts) = ap suc (turns_count limits script (before ++ x ∷ []) acts)
 
--- where all steps are of the first request, each is one of its own
-own_count : (steps : List Step) → ((k : ℕ) (x : Step) → slice_get steps k ≡ Some x → x.request ≡ 0) → length (own steps 0) ≡ length steps
-own_count [] zeros = refl
-own_count (x ∷ steps) zeros = rw (zeros 0 x refl) (ap suc (own_count steps (λ k y is. zeros (suc k) y is)))
+-- a request has an act for each of its steps
+own_count : (steps : List Step) (i : ℕ) → length (own steps i) ≡ steps_of i steps
+own_count [] i = refl
+own_count (x ∷ steps) i = go (x.request == i) (own_count steps i) ∙ sym (sum_by-cons (λ (y : Step). cond (y.request == i) 1 0) x steps)
+  where
+    go : (b : Bool) → length (own steps i) ≡ steps_of i steps → length (if b then (x.at, x.act) ∷ own steps i else own steps i) ≡ cond b 1 0 + steps_of i steps
+    go true e = omega (arith, e)
+    go false e = omega (arith, e)
+
+stories_count : (limits : Limits) (scripts : List ScriptView) (i : ℕ) (steps : List Step) (end : ℕ) → length (stories limits scripts i steps end) ≡ length scripts
+stories_count limits [] i steps end = refl
+stories_count limits (script ∷ scripts) i steps end = ap suc (stories_count limits scripts (suc i) steps end)
+
+-- each request is told by its own steps
+pub story_at : (limits : Limits) (scripts : List ScriptView) (i j : ℕ) (steps : List Step) (end : ℕ) (script : ScriptView) → slice_get scripts j ≡ Some script →
+    slice_get (stories limits scripts i steps end) j ≡ Some (story limits script (own steps (i + j)) end)
+story_at limits [] i j steps end script is = absurd (cc)
+story_at limits (s ∷ scripts) i zero steps end script is =
+    let same : s ≡ script = cc in let here : i + 0 ≡ i = omega arith in
+    ap (λ (z : ScriptView). Some (story limits z (own steps i) end)) same ∙ ap (λ (n : ℕ). Some (story limits script (own steps n) end)) (sym here)
+story_at limits (s ∷ scripts) i (suc j) steps end script is =
+    let next : suc i + j ≡ i + suc j = omega arith in
+    story_at limits scripts (suc i) j steps end script is ∙ ap (λ (n : ℕ). Some (story limits script (own steps n) end)) next
+
+-- a script of a number, where one is told of
+script_at : (limits : Limits) (scripts : List ScriptView) (i j : ℕ) (steps : List Step) (end : ℕ) (t : ToldView) → slice_get (stories limits scripts i steps end) j ≡ Some t →
+    (script : ScriptView) × (slice_get scripts j ≡ Some script)
+script_at limits [] i j steps end t is = absurd (cc)
+script_at limits (s ∷ scripts) i zero steps end t is = (s, refl)
+script_at limits (s ∷ scripts) i (suc j) steps end t is = script_at limits scripts (suc i) j steps end t is
+
+told_one : (a b : ToldView) (o : Option ToldView) → o ≡ Some a → o ≡ Some b → a ≡ b
+told_one a b o p q = cc
+
+-- the same from the first request on
+pub story_of : (limits : Limits) (s : ScenarioView) (i : ℕ) (script : ScriptView) → slice_get s.requests i ≡ Some script →
+    slice_get (report_of limits s).told i ≡ Some (story limits script (own s.steps i) s.end)
+story_of limits s i script is = let here : 0 + i ≡ i = omega arith in story_at limits s.requests 0 i s.steps s.end script is ∙ ap (λ (n : ℕ). Some (story limits script (own s.steps n) s.end)) here
 
 pub report_fits : (limits : Limits) (s : ScenarioView) → IsValid s → Fits (report_of limits s).told s.steps
-report_fits limits s valid =
-    fits_one _ s.steps (valid_requests s valid) (turns_count limits s.request [] (own s.steps 0) ∙ own_count s.steps (valid_requests s valid))
+report_fits limits s valid = record {
+  requests = λ k x is. let within = valid_requests s valid k x is in let count = stories_count limits s.requests 0 s.steps s.end in omega arith;
+  turns = λ i t is.
+      let found = script_at limits s.requests 0 i s.steps s.end t is in
+      let same = told_one _ t _ (story_of limits s i found.0 found.1) is in
+      ap (λ (x : ToldView). length x.turns) (sym same) ∙ turns_count limits found.0 [] (own s.steps i) ∙ own_count s.steps i;
+}
 
 -- each request has the early drops of the table
-pub report_drops : (limits : Limits) (s : ScenarioView) (i : ℕ) (t : ToldView) → slice_get (report_of limits s).told i ≡ Some t →
-    drop_records t ≡ drops limits s.request (own s.steps i) (drop_time (dropped_at (own s.steps i)) s.end)
-report_drops limits s zero t is = let same : story limits s.request (own s.steps 0) s.end ≡ t = cc in ap drop_records (sym same) ∙ drops_once limits s.request (own s.steps 0) s.end
-report_drops limits s (suc i) t is = absurd (cc)
+pub report_drops : (limits : Limits) (s : ScenarioView) (i : ℕ) (script : ScriptView) (t : ToldView) → slice_get s.requests i ≡ Some script → slice_get (report_of limits s).told i ≡ Some t →
+    drop_records t ≡ drops limits script (own s.steps i) (drop_time (dropped_at (own s.steps i)) s.end)
+report_drops limits s i script t here is =
+    ap drop_records (told_one t _ _ is (story_of limits s i script here)) ∙ drops_once limits script (own s.steps i) s.end

@@ -2,6 +2,7 @@
 use lib.Dec.{leb-zero, leb-suc-suc}
 use Rattle.std.proofs.Common.{◌≡◌, ℕ, zero, suc, ◌+◌, List, [], ◌∷◌, length, drop, Option, Some, None, Ok, Err, Result, refl, sym, ap, ◌∙◌, subst, arith}
 use Rattle.std.proofs.lemmas.List.{drop-drop}
+use Rattle.std.specs.Option.{option_map_or}
 use Rattle.std.specs.Prelude.{◌&&◌, nat_le, slice_get}
 use Rattle.life_core.specs.History.{BodyFollows, FutureFollows, Waits, Where, Waiting, Answered, Matches, where_after, left_at, ServiceFollows}
 use Rattle.life_core.specs.declared.message.Request.{Request}
@@ -15,9 +16,11 @@ use Rattle.life_script.specs.declared.scenario.PollItem.{PollItem}
 use Rattle.life_script.specs.declared.scenario.Then.{Then}
 use Rattle.life_script.specs.declared.scenario.Then.TheVariants as then_
 use Rattle.life_stack.specs.Driven.{Heads, ScriptStands, ScriptBodyStands, item_says, then_says, script_history, script_body_history}
-use Rattle.life_stack.specs.Script.{Answers, IsServiceOf, Responds, ScriptCalls, ScriptFrames, ScriptLeaves, ScriptPolls, item_frame, items_of, tells_end}
+use Rattle.life_stack.specs.Script.{Answers, Finds, IsNumbered, polls_for, Responds, ScriptCalls, ScriptFrames, ScriptLeaves, ScriptPolls, item_frame, items_of, tells_end}
+use Rattle.life_stack.specs.declared.ext.Ext.{Ext}
 use Rattle.life_stack.specs.declared.script_service.ScriptBody.{ScriptBody}
 use Rattle.life_stack.specs.declared.script_service.ScriptFuture.{ScriptFuture}
+use Rattle.life_stack.specs.declared.script_service.ScriptService.{ScriptService}
 
 -- the first of what is left is the next item
 first_left : {A : Type 0} (xs : List A) (n : ℕ) → slice_get (drop n xs) 0 ≡ slice_get xs n
@@ -46,17 +49,17 @@ script_body_follows = record {
   refused = λ p past b was m e now s f. absurd (cc f.0);
 }
 
-then_matches : (t : Then) (a : Poll (Result (Response ScriptBody Unit) (List ℕ))) → Answers t a → Matches Heads ScriptBodyStands (then_says t) a
+then_matches : (t : Then) (a : Poll (Result (Response ScriptBody Ext) (List ℕ))) → Answers t a → Matches Heads ScriptBodyStands (then_says t) a
 then_matches then_.Pending a r = subst (λ x. Matches Heads ScriptBodyStands Waits x) (sym r) tt
 then_matches (then_.Respond reply) (Ready (Ok s)) r = (r.head, record { items = r.body.items; tells = r.body.tells })
 then_matches (then_.Respond reply) (Ready (Err e)) r = absurd r
 then_matches (then_.Respond reply) Pending r = absurd r
 
-says : (o : Option PollItem) (a : Poll (Result (Response ScriptBody Unit) (List ℕ))) → Responds o a → Matches Heads ScriptBodyStands (item_says o) a
+says : (o : Option PollItem) (a : Poll (Result (Response ScriptBody Ext) (List ℕ))) → Responds o a → Matches Heads ScriptBodyStands (item_says o) a
 says None a r = subst (λ x. Matches Heads ScriptBodyStands Waits x) (sym r) tt
 says (Some item) a r = then_matches item.then a r
 
-stays : (script : ScriptView) (past : List ℕ) (t : ℕ) (new : ScriptFuture) (a : Poll (Result (Response ScriptBody Unit) (List ℕ))) → ScriptStands script new (Waiting (t ∷ past)) → ScriptStands script new (where_after past t a)
+stays : (script : ScriptView) (past : List ℕ) (t : ℕ) (new : ScriptFuture) (a : Poll (Result (Response ScriptBody Ext) (List ℕ))) → ScriptStands script new (Waiting (t ∷ past)) → ScriptStands script new (where_after past t a)
 stays script past t new Pending e = e
 stays script past t new (Ready a) e = tt
 
@@ -75,8 +78,23 @@ script_follows script = record {
   refused = λ w f was m e now s p. absurd (cc p.0);
 }
 
-pub script_serves : (script : ScriptView) → ServiceFollows {R = Request ScriptBody Unit} ScriptCalls (λ r. Unit) (IsServiceOf script) (λ t. ScriptStands script) []
-script_serves script = record {
-  call = λ s req was m f new now q e c. (ap (λ x. x.script) c.same ∙ e, c.begun ∙ ap (λ (x : ScriptView). x.polls) e, grew_none was now c.unrecorded);
-  refused = λ s req was m e new now k c. ap (λ x. x.script) c.same ∙ k;
+-- a request of number i is served by the script that is found for it
+polls_found : (scripts : List ScriptView) (script : ScriptView) (i : ℕ) (number : Option ℕ) → number ≡ Some i → slice_get scripts i ≡ Some script → polls_for scripts number ≡ script.polls
+polls_found scripts script i number n e = ap (polls_for scripts) n ∙ ap (λ (o : Option ScriptView). option_map_or (λ (s : ScriptView). s.polls) o []) e
+
+pub script_serves : (script : ScriptView) (i : ℕ) → ServiceFollows {R = Request ScriptBody Ext} ScriptCalls (IsNumbered i) (Finds script i) (λ t. ScriptStands script) []
+script_serves script i = record {
+  call = λ s req was m f new now q e c. (
+    ap (λ (x : ScriptService). slice_get x.scripts.value.items i) c.same ∙ e,
+    c.begun ∙ polls_found s.scripts.value.items script i req.head.ext.number q e,
+    grew_none was now c.unrecorded,
+  );
+  refused = λ s req was m e new now k c. ap (λ (x : ScriptService). slice_get x.scripts.value.items i) c.same ∙ k;
+}
+
+-- whatever is asked, the service finds what it found
+pub script_keeps : (script : ScriptView) (i : ℕ) → ServiceFollows {R = Request ScriptBody Ext} ScriptCalls (λ r. Unit) (Finds script i) (λ t (f : ScriptFuture) (w : Where). Unit) []
+script_keeps script i = record {
+  call = λ s req was m f new now q e c. (ap (λ (x : ScriptService). slice_get x.scripts.value.items i) c.same ∙ e, tt, grew_none was now c.unrecorded);
+  refused = λ s req was m e new now k c. ap (λ (x : ScriptService). slice_get x.scripts.value.items i) c.same ∙ k;
 }

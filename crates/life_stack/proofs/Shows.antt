@@ -14,7 +14,7 @@ use Rattle.life_script.specs.declared.scenario.Act.TheVariants as act
 use Rattle.life_script.specs.declared.scenario.Limits.{Limits}
 use Rattle.life_stack.specs.Own.{Own, called_at, polls, dropped_at}
 use Rattle.life_stack.specs.Story.{head, on_call, on_poll, on_drop, answer, drops, events_of}
-use Rattle.life_stack.specs.Driven.{DriveStack, DriveFuture, DriveBody, StackStands, drive_ends}
+use Rattle.life_stack.specs.Driven.{DriveFuture, DriveBody, drive_ends}
 use Rattle.life_stack.specs.LiveAt.{LiveAt, Shown}
 use Rattle.life_stack.specs.StandsAt.{FreshAt, FutureAt, BodyAt, OverAt, BodyPolled}
 use Rattle.life_stack.specs.declared.live.Live.{Live}
@@ -31,36 +31,36 @@ module _ (limits : Limits) (script : ScriptView) (before : List Own) where
       let kind = kind_next limits script before (t, act.Drop) ans.Dropped a in
       rw (more, c, ending, kind) refl
 
-  dropped_shown : (was now : Recorded) (t t0 : ℕ) (stack : DriveStack) → called_at before ≡ Some t0 → dropped_at before ≡ None → Grew was now (drops limits script before t) →
-      Shown limits script before (t, act.Drop) was stack (live.Over, ans.Dropped) now
-  dropped_shown was now t t0 stack c d g =
+  dropped_shown : (was now : Recorded) (t t0 : ℕ) → called_at before ≡ Some t0 → dropped_at before ≡ None → Grew was now (drops limits script before t) →
+      Shown limits script before (t, act.Drop) was (live.Over, ans.Dropped) now
+  dropped_shown was now t t0 c d g =
       let a : answer limits script before (t, act.Drop) ≡ ans.Dropped = ap (λ o. on_drop o (dropped_at before)) c ∙ ap (on_drop (Some t0)) d in record {
         live = record { t0 = t0; d = t; called = called_kept before (t, act.Drop) t0 c; dropped = dropped_now before t0 c t d };
         answer_is = sym a;
         log = g.log ∙ ap (λ es. was.log ++ es) (sym (drops_pushed t t t0 c a) ∙ ap (λ x. events_of x (drops limits script (before ++ (t, act.Drop) ∷ []) t)) (sym a));
       }
 
-  pub future_dropped : (f : DriveFuture) (was now : Recorded) (t : ℕ) (stack : DriveStack) → FutureAt limits script before f → Grew was now (drops limits script before t) →
-      Shown limits script before (t, act.Drop) was stack (live.Over, ans.Dropped) now
-  future_dropped f was now t stack at g = dropped_shown was now t at.t0 stack at.called at.undropped g
+  pub future_dropped : (f : DriveFuture) (was now : Recorded) (t : ℕ) → FutureAt limits script before f → Grew was now (drops limits script before t) →
+      Shown limits script before (t, act.Drop) was (live.Over, ans.Dropped) now
+  future_dropped f was now t at g = dropped_shown was now t at.t0 at.called at.undropped g
 
-  pub body_dropped : (b : DriveBody) (was now : Recorded) (t : ℕ) (stack : DriveStack) → BodyAt limits script before b → Grew was now (drops limits script before t) →
-      Shown limits script before (t, act.Drop) was stack (live.Over, ans.Dropped) now
-  body_dropped b was now t stack at g = dropped_shown was now t at.t0 stack at.called at.undropped g
+  pub body_dropped : (b : DriveBody) (was now : Recorded) (t : ℕ) → BodyAt limits script before b → Grew was now (drops limits script before t) →
+      Shown limits script before (t, act.Drop) was (live.Over, ans.Dropped) now
+  body_dropped b was now t at g = dropped_shown was now t at.t0 at.called at.undropped g
 
   -- a chunk
-  pub chunk_shown : (was now : Recorded) (t : ℕ) (stack : DriveStack) (f : Frame (List ℕ)) (new : DriveBody) (held : Seen) (ended : Bool) →
+  pub chunk_shown : (was now : Recorded) (t : ℕ) (f : Frame (List ℕ)) (new : DriveBody) (held : Seen) (ended : Bool) →
       BodyPolled limits script before t was (Ready (Some (Ok f))) new now → ended ≡ drive_ends new → ((bytes : List ℕ) → f ≡ data_frame bytes → held ≡ seen.Chunk bytes) →
-      Shown limits script before (t, act.Poll) was stack (live.Body new, ans.Frame held ended) now
-  chunk_shown was now t stack f new held ended p e s = record {
+      Shown limits script before (t, act.Poll) was (live.Body new, ans.Frame held ended) now
+  chunk_shown was now t f new held ended p e s = record {
     live = p.left;
     answer_is = ap (λ x. ans.Frame x ended) (s p.said.0 p.said.1) ∙ ap (ans.Frame (seen.Chunk p.said.0)) e ∙ sym p.said.2;
     log = p.grew.log;
   }
 
   -- Nothing is done.
-  idle_shown : (was : Recorded) (stack : DriveStack) (x : Own) (l : Live) → answer limits script before x ≡ ans.Idle → LiveAt limits script (before ++ x ∷ []) stack l → Shown limits script before x was stack (l, ans.Idle) was
-  idle_shown was stack x l a at = record {
+  idle_shown : (was : Recorded) (x : Own) (l : Live) → answer limits script before x ≡ ans.Idle → LiveAt limits script (before ++ x ∷ []) l → Shown limits script before x was (l, ans.Idle) was
+  idle_shown was x l a at = record {
     live = at;
     answer_is = sym a;
     log = sym (append-nil was.log) ∙ ap (λ y. was.log ++ events_of y (drops limits script (before ++ x ∷ []) x.0)) (sym a);
@@ -73,21 +73,21 @@ module _ (limits : Limits) (script : ScriptView) (before : List Own) where
     kind = kind_next limits script before x ans.Idle a ∙ at.kind;
   }
 
-  pub fresh_polled : (was : Recorded) (stack : DriveStack) (t : ℕ) → FreshAt limits script before × StackStands limits script stack → Shown limits script before (t, act.Poll) was stack (live.Fresh, ans.Idle) was
-  fresh_polled was stack t at =
-      let a = ap (λ c. on_poll limits script c (dropped_at before) (polls before ++ t ∷ []) (length (polls before))) (at.0).uncalled in
-      idle_shown was stack (t, act.Poll) live.Fresh a (fresh_more (t, act.Poll) at.0 a (poll_uncalled before t (at.0).uncalled), at.1)
+  pub fresh_polled : (was : Recorded) (t : ℕ) → FreshAt limits script before → Shown limits script before (t, act.Poll) was (live.Fresh, ans.Idle) was
+  fresh_polled was t at =
+      let a = ap (λ c. on_poll limits script c (dropped_at before) (polls before ++ t ∷ []) (length (polls before))) at.uncalled in
+      idle_shown was (t, act.Poll) live.Fresh a (fresh_more (t, act.Poll) at a (poll_uncalled before t at.uncalled))
 
-  pub fresh_dropped : (was : Recorded) (stack : DriveStack) (t : ℕ) → FreshAt limits script before × StackStands limits script stack → Shown limits script before (t, act.Drop) was stack (live.Fresh, ans.Idle) was
-  fresh_dropped was stack t at =
-      let a = ap (λ c. on_drop c (dropped_at before)) (at.0).uncalled in
-      idle_shown was stack (t, act.Drop) live.Fresh a (fresh_more (t, act.Drop) at.0 a (drop_uncalled before t (at.0).uncalled), at.1)
+  pub fresh_dropped : (was : Recorded) (t : ℕ) → FreshAt limits script before → Shown limits script before (t, act.Drop) was (live.Fresh, ans.Idle) was
+  fresh_dropped was t at =
+      let a = ap (λ c. on_drop c (dropped_at before)) at.uncalled in
+      idle_shown was (t, act.Drop) live.Fresh a (fresh_more (t, act.Drop) at a (drop_uncalled before t at.uncalled))
 
-  pub future_called : (was : Recorded) (stack : DriveStack) (f : DriveFuture) (t : ℕ) → FutureAt limits script before f → Shown limits script before (t, act.Call) was stack (live.Future f, ans.Idle) was
-  future_called was stack f t at =
+  pub future_called : (was : Recorded) (f : DriveFuture) (t : ℕ) → FutureAt limits script before f → Shown limits script before (t, act.Call) was (live.Future f, ans.Idle) was
+  future_called was f t at =
       let a : answer limits script before (t, act.Call) ≡ ans.Idle = ap on_call at.called in
       let same = polls_after_call before at.t0 at.called t in
-      idle_shown was stack (t, act.Call) (live.Future f) a (record {
+      idle_shown was (t, act.Call) (live.Future f) a (record {
         t0 = at.t0;
         past = at.past;
         called = called_kept before (t, act.Call) at.t0 at.called;
@@ -100,11 +100,11 @@ module _ (limits : Limits) (script : ScriptView) (before : List Own) where
         stands = at.stands;
       })
 
-  pub body_called : (was : Recorded) (stack : DriveStack) (b : DriveBody) (t : ℕ) → BodyAt limits script before b → Shown limits script before (t, act.Call) was stack (live.Body b, ans.Idle) was
-  body_called was stack b t at =
+  pub body_called : (was : Recorded) (b : DriveBody) (t : ℕ) → BodyAt limits script before b → Shown limits script before (t, act.Call) was (live.Body b, ans.Idle) was
+  body_called was b t at =
       let a : answer limits script before (t, act.Call) ≡ ans.Idle = ap on_call at.called in
       let same = polls_after_call before at.t0 at.called t in
-      idle_shown was stack (t, act.Call) (live.Body b) a (record {
+      idle_shown was (t, act.Call) (live.Body b) a (record {
         t0 = at.t0;
         h = at.h;
         ph = at.ph;
@@ -128,5 +128,5 @@ module _ (limits : Limits) (script : ScriptView) (before : List Own) where
       ∙ ap (λ d. on_poll limits script (Some at.t0) d (polls before ++ t ∷ []) (length (polls before))) at.dropped
   over_answer (t, act.Drop) at = ap (λ c. on_drop c (dropped_at before)) at.called ∙ ap (on_drop (Some at.t0)) at.dropped
 
-  pub over_idle : (was : Recorded) (stack : DriveStack) (x : Own) → OverAt before → Shown limits script before x was stack (live.Over, ans.Idle) was
-  over_idle was stack x at = idle_shown was stack x live.Over (over_answer x at) (record { t0 = at.t0; d = at.d; called = called_kept before x at.t0 at.called; dropped = dropped_kept before at.t0 at.called x at.d at.dropped })
+  pub over_idle : (was : Recorded) (x : Own) → OverAt before → Shown limits script before x was (live.Over, ans.Idle) was
+  over_idle was x at = idle_shown was x live.Over (over_answer x at) (record { t0 = at.t0; d = at.d; called = called_kept before x at.t0 at.called; dropped = dropped_kept before at.t0 at.called x at.d at.dropped })

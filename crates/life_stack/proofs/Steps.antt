@@ -29,11 +29,13 @@ use Rattle.life_stack.specs.Own.{Own, NotBefore, polls_before_drop, first_drop, 
 use Rattle.life_stack.specs.Story.{first_due, first_reply, earlier, counted, due_reply, head, tells_after, body_answer, by_head, on_call, on_poll, answer, answers, is_ending, any_ending, kind_after, kind_of, drops, events_of}
 use Rattle.life_stack.specs.Driven.{DriveStack, DriveFuture, DriveBody, drive_calls, drive_polls, drive_leaves, drive_frames, drive_body_leaves, drive_ends, Heads, Plan, plan, StackStands, FutureStands, BodyStands, future_history, body_history, timed_body_history}
 use Rattle.life_stack.specs.StandsAt.{FreshAt, FutureAt, FutureAnswered, BodyAt, FutureSaid, FutureLeft, FuturePolled, BodySaid, BodyPolled, Called}
+use Rattle.life_stack.specs.Script.{IsNumbered}
+use Rattle.life_stack.specs.declared.ext.Ext.{Ext}
 use Rattle.life_stack.specs.declared.script_service.ScriptBody.{ScriptBody}
 use Rattle.life_stack.proofs.Heads.{head_of, head_kept, length_push}
 use Rattle.life_stack.proofs.Acts.{called_kept, called_now, after_now, polls_after_poll, dropped_after_poll, answers_push, any_ending_push, kind_of_push, not_before_push}
 use Rattle.life_stack.proofs.Answering.{timed_says, IsPlain, timed_plain, head_said, answer_at_head, answer_above_head, last_poll, earlier_poll, ending_said, body_table, future_events, frame_events}
-use Rattle.life_stack.proofs.DrivenFollows.{future_follows, body_follows, stack_follows}
+use Rattle.life_stack.proofs.DrivenFollows.{future_follows, body_follows, stack_follows, stack_keeps}
 
 module _ (limits : Limits) (script : ScriptView) where
   pub any_next : (before : List Own) (x : Own) (a : Answer) → answer limits script before x ≡ a → any_ending (answers limits script (before ++ x ∷ [])) ≡ (any_ending (answers limits script before) || is_ending a)
@@ -74,18 +76,18 @@ module _ (limits : Limits) (script : ScriptView) where
         grew = g;
       }
 
-  pub stack_called : (before : List Own) (was now : Recorded) (m : Moment) (s new : DriveStack) (req : Request ScriptBody Unit) (made : Result DriveFuture NoMemory) →
-      FreshAt limits script before → StackStands limits script s → drive_calls s req was m made new now → IfOk made (λ f. Called limits script before m.now was f now)
-  stack_called before was now m s new req (Ok f) at k c = let i = (stack_follows limits script).call s req was m f new now tt k c in called_steps before m.now was f now at i.1 i.2
-  stack_called before was now m s new req (Err e) at k c = tt
+  pub stack_called : (i : ℕ) (before : List Own) (was now : Recorded) (m : Moment) (s new : DriveStack) (req : Request ScriptBody Ext) (made : Result DriveFuture NoMemory) → IsNumbered i req →
+      FreshAt limits script before → StackStands limits script i s → drive_calls s req was m made new now → IfOk made (λ f. Called limits script before m.now was f now)
+  stack_called i before was now m s new req (Ok f) n at k c = let g = (stack_follows limits script i).call s req was m f new now n k c in called_steps before m.now was f now at g.1 g.2
+  stack_called i before was now m s new req (Err e) n at k c = tt
 
-  pub stack_kept : (was now : Recorded) (m : Moment) (s new : DriveStack) (req : Request ScriptBody Unit) (made : Result DriveFuture NoMemory) →
-      StackStands limits script s → drive_calls s req was m made new now → StackStands limits script new
-  stack_kept was now m s new req (Ok f) k c = ((stack_follows limits script).call s req was m f new now tt k c).0
-  stack_kept was now m s new req (Err e) k c = (stack_follows limits script).refused s req was m e new now k c
+  pub stack_kept : (i : ℕ) (was now : Recorded) (m : Moment) (s new : DriveStack) (req : Request ScriptBody Ext) (made : Result DriveFuture NoMemory) →
+      StackStands limits script i s → drive_calls s req was m made new now → StackStands limits script i new
+  stack_kept i was now m s new req (Ok f) k c = ((stack_keeps limits script i).call s req was m f new now tt k c).0
+  stack_kept i was now m s new req (Err e) k c = (stack_keeps limits script i).refused s req was m e new now k c
 
   -- A future that waits.
-  said_quiet : (a : Poll (Result (Response DriveBody Unit) (List ℕ))) (x : Answer) (es : List Event) → FutureSaid a x → events_of x es ≡ []
+  said_quiet : (a : Poll (Result (Response DriveBody Ext) (List ℕ))) (x : Answer) (es : List Event) → FutureSaid a x → events_of x es ≡ []
   said_quiet Pending x es s = ap (λ y. events_of y es) s
   said_quiet (Ready (Ok r)) x es s = ap (λ y. events_of y es) s
   said_quiet (Ready (Err e)) x es s = ap (λ y. events_of y es) s
@@ -100,7 +102,7 @@ module _ (limits : Limits) (script : ScriptView) where
     polled_more : (t : ℕ) → polls (before ++ (t, act.Poll) ∷ []) ≡ polls before ++ t ∷ []
     polled_more t = polls_after_poll before at.t0 at.called t at.undropped
 
-    by_answer : (t : ℕ) (new : DriveFuture) (said : Said ℕ ReplyView (List ℕ)) (a : Poll (Result (Response DriveBody Unit) (List ℕ))) →
+    by_answer : (t : ℕ) (new : DriveFuture) (said : Said ℕ ReplyView (List ℕ)) (a : Poll (Result (Response DriveBody Ext) (List ℕ))) →
         head limits script at.t0 (polls before ++ t ∷ []) ≡ head_of (length (polls before)) said → IsPlain said →
         Matches Heads (BodyStands limits at.t0) (said_under {P = ℕ × ReplyView} {Q = Plan} (λ status p. (status, p)) (said_under {P = ReplyView} {Q = ℕ × ReplyView} (λ status p. (t, p)) said)) a →
         FutureStands limits script at.t0 new (where_after at.past t a) →
@@ -153,7 +155,7 @@ module _ (limits : Limits) (script : ScriptView) where
     by_answer t new (Gives status r) Pending e plain m stands = absurd m
     by_answer t new (Gives status r) (Ready (Err x)) e plain m stands = absurd m
 
-    pub future_polled : (was now : Recorded) (m : Moment) (made : Reply DriveBody Unit (List ℕ)) (new : DriveFuture) → drive_polls f was m made new now →
+    pub future_polled : (was now : Recorded) (m : Moment) (made : Reply DriveBody Ext (List ℕ)) (new : DriveFuture) → drive_polls f was m made new now →
         IfOk made (λ a. FuturePolled limits script before m.now was a new now)
     future_polled was now m (Err e) new p = tt
     future_polled was now m (Ok a) new p =

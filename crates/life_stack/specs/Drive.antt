@@ -1,17 +1,24 @@
 -- What a drive answers.
-use Rattle.std.specs.Prelude.{◌≡◌, [], ◌∷◌, Err}
-use Rattle.life_script.specs.ScriptView.{ScenarioView}
+use Rattle.std.specs.Prelude.{◌≡◌, ℕ, suc, List, [], ◌∷◌, Err}
+use Rattle.life_script.specs.ScriptView.{ScriptView, ScenarioView}
+use Rattle.life_script.specs.ToldView.{ToldView}
 use Rattle.life_script.specs.Valid.{verdict}
 use Rattle.life_script.specs.declared.error.DriveError.{DriveError}
 use Rattle.life_script.specs.declared.error.DriveError.TheVariants.{ClockBack, NoRequest, NoMemory}
 use Rattle.life_script.specs.declared.scenario.Limits.{Limits}
+use Rattle.life_script.specs.declared.scenario.Step.{Step}
 use Rattle.life_stack.specs.Own.{own}
 use Rattle.life_stack.specs.ReportView.{ReportView}
 use Rattle.life_stack.specs.Story.{story}
 
--- the report of a scenario: the story of its one request, its steps and its end
+-- the stories of the requests from number i on, each by its own steps
+abbrev pub stories : Limits → List ScriptView → ℕ → List Step → ℕ → List ToldView
+stories limits [] i steps end = []
+stories limits (script ∷ scripts) i steps end = story limits script (own steps i) end ∷ stories limits scripts (suc i) steps end
+
+-- the report of a scenario: the story of each request, its steps and its end
 abbrev pub report_of : Limits → ScenarioView → ReportView
-report_of limits s = record { told = story limits s.request (own s.steps 0) s.end ∷ []; steps = s.steps; end = s.end }
+report_of limits s = record { told = stories limits s.requests 0 s.steps s.end; steps = s.steps; end = s.end }
 
 -- a scenario is refused exactly by its verdict; want of memory is no verdict
 abbrev pub IsRefused : ScenarioView → DriveError → Type 0

@@ -35,8 +35,9 @@ use Rattle.life_script.specs.declared.scenario.Limits.{Limits}
 use Rattle.life_script.specs.declared.scenario.PollItem.{PollItem}
 use Rattle.life_script.specs.declared.scenario.Then.{Then}
 use Rattle.life_script.specs.declared.scenario.Then.TheVariants as then_
-use Rattle.life_stack.specs.Script.{IsDefaultBody, IsServiceOf, ScriptCalls, ScriptFrames, ScriptLeaves, ScriptPolls, item_frame, items_of, polls_of, tells_end}
+use Rattle.life_stack.specs.Script.{IsDefaultBody, IsDefaultExt, Finds, ScriptCalls, ScriptFrames, ScriptLeaves, ScriptPolls, item_frame, items_of, polls_of, tells_end}
 use Rattle.life_stack.specs.Story.{due_reply}
+use Rattle.life_stack.specs.declared.ext.Ext.{Ext}
 use Rattle.life_stack.specs.declared.script_service.ScriptBody.{ScriptBody}
 use Rattle.life_stack.specs.declared.script_service.ScriptFuture.{ScriptFuture}
 use Rattle.life_stack.specs.declared.script_service.ScriptService.{ScriptService}
@@ -66,11 +67,11 @@ FutureMay = EarlyFutureMay (DeadlineFutureMay (TimeoutFutureMay (λ _. ⊤))) (�
 abbrev pub BodyMay : DriveBody → Type 0
 BodyMay = EarlyBodyMay (DeadlineBodyMay (λ _. ⊤)) (λ _. ⊤)
 
-abbrev pub drive_calls : DriveStack → Request ScriptBody Unit → Recorded → Moment → Result DriveFuture NoMemory → DriveStack → Recorded → Type 0
+abbrev pub drive_calls : DriveStack → Request ScriptBody Ext → Recorded → Moment → Result DriveFuture NoMemory → DriveStack → Recorded → Type 0
 drive_calls = EarlyCalls (DeadlineCalls (TimeoutCalls ScriptCalls)) NotesFuture NotesStart ScriptLeaves
 
-abbrev pub drive_polls : DriveFuture → Recorded → Moment → Reply DriveBody Unit (List ℕ) → DriveFuture → Recorded → Type 0
-drive_polls = EarlyPolls (DeadlinePolls (TimeoutPolls ScriptPolls ScriptLeaves IsDefaultBody (λ _. ⊤))) NotesBody (deadline_ends tells_end) (DeadlineBodyLeaves ScriptLeaves)
+abbrev pub drive_polls : DriveFuture → Recorded → Moment → Reply DriveBody Ext (List ℕ) → DriveFuture → Recorded → Type 0
+drive_polls = EarlyPolls (DeadlinePolls (TimeoutPolls ScriptPolls ScriptLeaves IsDefaultBody IsDefaultExt)) NotesBody (deadline_ends tells_end) (DeadlineBodyLeaves ScriptLeaves)
 
 abbrev pub drive_leaves : DriveFuture → Recorded → Moment → Result Unit NoMemory → Recorded → Type 0
 drive_leaves = EarlyLeaves (DeadlineLeaves (TimeoutLeaves ScriptLeaves)) NotesDrop
@@ -121,12 +122,12 @@ script_body_history reply = record {
 -- THE STACK: one part for each layer.
 
 -- a head of its own: the status, no headers
-abbrev pub Heads : ℕ → ResponseHead Unit → Type 0
-Heads status head = IsBare (λ _. ⊤) status head
+abbrev pub Heads : ℕ → ResponseHead Ext → Type 0
+Heads status head = IsBare IsDefaultExt status head
 
--- a stack set for these limits over a service of this script
-abbrev pub StackStands : Limits → ScriptView → DriveStack → Type 0
-StackStands limits script = DropServes (DeadlineServes limits.body_deadline (TimeoutServes limits.timeout limits.timeout_status (IsServiceOf script)))
+-- a stack set for these limits over a service that finds this script for number i
+abbrev pub StackStands : Limits → ScriptView → ℕ → DriveStack → Type 0
+StackStands limits script i = DropServes (DeadlineServes limits.body_deadline (TimeoutServes limits.timeout limits.timeout_status (Finds script i)))
 
 -- a future of a request that was called at t0
 abbrev pub FutureStands : Limits → ScriptView → ℕ → DriveFuture → Where → Type 0

@@ -5,12 +5,13 @@ pub mod Intake
 pub mod Lines
 pub mod LiveAt
 pub mod Own
-pub mod RanTo
+pub mod Exchanged
 pub mod Report
 pub mod ReportView
 pub mod Rows
 pub mod Run
 pub mod Script
+pub mod SessionView
 pub mod StandsAt
 pub mod Status
 pub mod Story

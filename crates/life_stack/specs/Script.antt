@@ -1,5 +1,6 @@
 -- What the scripted service, its future and its body do: the items of their lists in order.
-use Rattle.std.specs.Prelude.{◌≡◌, ℕ, Bool, true, ◌&&◌, nat_le, List, [], length, drop, slice_get, Option, Some, None, Result, Ok, Err, IfOk, ⊤}
+use Rattle.std.specs.Prelude.{◌≡◌, ℕ, Bool, true, ◌&&◌, nat_le, List, [], length, drop, slice_get, Option, Some, None, Result, Ok, Err, IfOk}
+use Rattle.std.specs.Option.{option_map_or}
 use Rattle.http_body.specs.Frame.{data_frame}
 use Rattle.http_body.specs.declared.frame.Frame.{Frame}
 use Rattle.life_core.specs.Meaning.{Answer, Reply}
@@ -18,6 +19,7 @@ use Rattle.life_script.specs.declared.scenario.BodyItem.TheVariants as body_item
 use Rattle.life_script.specs.declared.scenario.PollItem.{PollItem}
 use Rattle.life_script.specs.declared.scenario.Then.{Then}
 use Rattle.life_script.specs.declared.scenario.Then.TheVariants as then_
+use Rattle.life_stack.specs.declared.ext.Ext.{Ext}
 use Rattle.life_stack.specs.declared.script_service.ScriptBody.{ScriptBody}
 use Rattle.life_stack.specs.declared.script_service.ScriptFuture.{ScriptFuture}
 use Rattle.life_stack.specs.declared.script_service.ScriptService.{ScriptService}
@@ -29,6 +31,10 @@ items_of b = elim b.items [ None ↦ [] | Some l ↦ drop b.next l.items ]
 -- the items that a future has left
 abbrev pub polls_of : ScriptFuture → List PollItem
 polls_of f = drop f.next f.polls.items
+
+-- what no one has set
+abbrev pub IsDefaultExt : Ext → Type 0
+IsDefaultExt e = e.number ≡ None
 
 pub record IsBodyOf (reply : ReplyView) (b : ScriptBody) : Type 0 where
   pub items : items_of b ≡ reply.body
@@ -64,39 +70,52 @@ abbrev pub ScriptLeaves : {S : Type 0} → S → Recorded → Moment → Result 
 ScriptLeaves old was m answer now = (answer ≡ Ok tt) × (now ≡ was)
 
 -- the scripted response: its status, no headers, and its body
-pub record IsReply (reply : ReplyView) (r : Response ScriptBody Unit) : Type 0 where
-  pub head : IsBare (λ _. ⊤) reply.status r.head
+pub record IsReply (reply : ReplyView) (r : Response ScriptBody Ext) : Type 0 where
+  pub head : IsBare IsDefaultExt reply.status r.head
   pub body : IsBodyOf reply r.body
 
 -- the answer to what an item says
-abbrev pub Answers : Then → Poll (Result (Response ScriptBody Unit) (List ℕ)) → Type 0
+abbrev pub Answers : Then → Poll (Result (Response ScriptBody Ext) (List ℕ)) → Type 0
 Answers then_.Pending a = a ≡ Pending
 Answers (then_.Respond reply) (Ready (Ok r)) = IsReply reply r
 Answers (then_.Respond reply) (Ready (Err e)) = ⊥
 Answers (then_.Respond reply) Pending = ⊥
 
 -- the answer to an item, or to none
-abbrev pub Responds : Option PollItem → Poll (Result (Response ScriptBody Unit) (List ℕ)) → Type 0
+abbrev pub Responds : Option PollItem → Poll (Result (Response ScriptBody Ext) (List ℕ)) → Type 0
 Responds None a = a ≡ Pending
 Responds (Some item) a = Answers item.then a
 
-pub record NextPoll (old : ScriptFuture) (a : Poll (Result (Response ScriptBody Unit) (List ℕ))) (new : ScriptFuture) : Type 0 where
+pub record NextPoll (old : ScriptFuture) (a : Poll (Result (Response ScriptBody Ext) (List ℕ))) (new : ScriptFuture) : Type 0 where
   pub answer_is : Responds (slice_get (polls_of old) 0) a
   pub rest : polls_of new ≡ drop 1 (polls_of old)
 
-abbrev pub ScriptPolls : ScriptFuture → Recorded → Moment → Reply ScriptBody Unit (List ℕ) → ScriptFuture → Recorded → Type 0
+abbrev pub ScriptPolls : ScriptFuture → Recorded → Moment → Reply ScriptBody Ext (List ℕ) → ScriptFuture → Recorded → Type 0
 ScriptPolls old was m (Ok a) new now = NextPoll old a new × (now ≡ was)
 ScriptPolls old was m (Err e) new now = now ≡ was
 
-abbrev pub IsServiceOf : ScriptView → ScriptService → Type 0
-IsServiceOf script s = s.script ≡ script
+abbrev pub IsServiceOf : List ScriptView → ScriptService → Type 0
+IsServiceOf scripts s = s.scripts.value.items ≡ scripts
+
+-- it finds this script for number i
+abbrev pub Finds : ScriptView → ℕ → ScriptService → Type 0
+Finds script i s = slice_get s.scripts.value.items i ≡ Some script
+
+-- a request of number i
+abbrev pub IsNumbered : {B : Type 0} → ℕ → Request B Ext → Type 0
+IsNumbered i r = r.head.ext.number ≡ Some i
+
+-- the poll items of the script of a number, none where there is no such script
+abbrev pub polls_for : List ScriptView → Option ℕ → List PollItem
+polls_for scripts None = []
+polls_for scripts (Some i) = option_map_or (λ (s : ScriptView). s.polls) (slice_get scripts i) []
 
 abbrev pub ScriptReadies : ScriptService → Recorded → Moment → Poll (Result Unit (List ℕ)) → ScriptService → Recorded → Type 0
 ScriptReadies old was m answer new now = (answer ≡ Ready (Ok tt)) × (new ≡ old) × (now ≡ was)
 
--- the future has all poll items of the service, which keeps its script
-pub record ScriptCalls (old : ScriptService) (req : Request ScriptBody Unit) (was : Recorded) (m : Moment)
+-- the future has all poll items of the request's script; the service keeps its scripts
+pub record ScriptCalls (old : ScriptService) (req : Request ScriptBody Ext) (was : Recorded) (m : Moment)
     (answer : Result ScriptFuture NoMemory) (new : ScriptService) (now : Recorded) : Type 0 where
-  pub begun : IfOk answer (λ f. polls_of f ≡ old.script.polls)
+  pub begun : IfOk answer (λ f. polls_of f ≡ polls_for old.scripts.value.items req.head.ext.number)
   pub same : new ≡ old
   pub unrecorded : now ≡ was

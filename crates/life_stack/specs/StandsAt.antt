@@ -19,6 +19,7 @@ use Rattle.life_script.specs.declared.scenario.Act.TheVariants as act
 use Rattle.life_script.specs.declared.scenario.Limits.{Limits}
 use Rattle.life_stack.specs.Driven.{DriveFuture, DriveBody, FutureStands, BodyStands, plan, timed_body_history, drive_ends}
 use Rattle.life_stack.specs.Own.{Own, NotBefore, called_at, dropped_at, polls}
+use Rattle.life_stack.specs.declared.ext.Ext.{Ext}
 use Rattle.life_stack.specs.Story.{answer, answers, any_ending, drops, events_of, head, kind_of}
 
 -- no Call yet; what these acts answered ends nothing
@@ -72,20 +73,20 @@ pub record OverAt (acts : List Own) : Type 0 where
   pub dropped : dropped_at acts ≡ Some d
 
 -- what the answer of a future says: the response's status, and whether its body tells its end
-abbrev pub FutureSaid : Poll (Result (Response DriveBody Unit) (List ℕ)) → Answer → Type 0
+abbrev pub FutureSaid : Poll (Result (Response DriveBody Ext) (List ℕ)) → Answer → Type 0
 FutureSaid Pending a = a ≡ ans.Pending
 FutureSaid (Ready (Ok r)) a = a ≡ ans.Response r.head.parts.status (drive_ends r.body)
 FutureSaid (Ready (Err e)) a = a ≡ ans.ServiceError e
 
 -- what is live after a poll of a future; the scripted service never fails
-abbrev pub FutureLeft : Limits → ScriptView → List Own → Poll (Result (Response DriveBody Unit) (List ℕ)) → DriveFuture → Type 0
+abbrev pub FutureLeft : Limits → ScriptView → List Own → Poll (Result (Response DriveBody Ext) (List ℕ)) → DriveFuture → Type 0
 FutureLeft limits script acts Pending new = FutureAt limits script acts new
 FutureLeft limits script acts (Ready (Ok r)) new = FutureAnswered limits script acts new × BodyAt limits script acts r.body
 FutureLeft limits script acts (Ready (Err e)) new = ⊥
 
 -- a poll at time t gives the table's answer and events, and what is live stands at the longer list
 pub record FuturePolled (limits : Limits) (script : ScriptView) (acts : List Own) (t : ℕ) (was : Recorded)
-    (a : Poll (Result (Response DriveBody Unit) (List ℕ))) (new : DriveFuture) (now : Recorded) : Type 0 where
+    (a : Poll (Result (Response DriveBody Ext) (List ℕ))) (new : DriveFuture) (now : Recorded) : Type 0 where
   pub said : FutureSaid a (answer limits script acts (t, act.Poll))
   pub left : FutureLeft limits script (acts ++ (t, act.Poll) ∷ []) a new
   pub grew : Grew was now (events_of (answer limits script acts (t, act.Poll)) (drops limits script (acts ++ (t, act.Poll) ∷ []) t))

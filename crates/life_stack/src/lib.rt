@@ -3,20 +3,26 @@
 
 mod driving;
 mod due;
+mod exchange;
+mod exchanges;
+mod ext;
 mod intake;
 mod live;
 mod report;
 mod running;
 mod script_service;
+mod session;
 mod stack;
 mod status;
 mod words;
 mod writing;
 
 pub use driving::drive;
-pub use report::{Report, report_text};
+pub use ext::Ext;
+pub use report::report_text;
 pub use running::run;
 pub use script_service::{ScriptBody, ScriptFuture, ScriptService};
+pub use session::{Report, Session};
 pub use stack::{
     DriveBody, DriveFuture, DriveStack, abandon_body, abandon_future, call_stack, drive_stack,
     poll_body, poll_future, script_request,

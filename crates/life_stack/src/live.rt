@@ -1,15 +1,16 @@
 //! What is live of a request, and what one act does with it.
-ghost use Rattle.std.specs.Prelude.{◌≡◌, ◌++◌, ℕ, List, Ok, IfOk, IsErr};
+ghost use Rattle.std.specs.Prelude.{◌≡◌, ◌≤◌, ◌++◌, ℕ, List, Ok, IfOk, IsErr, IsOk};
 ghost use Rattle.http_body.specs.Frame.{data_frame};
 ghost use Rattle.life_core.specs.Moment.{SameContext};
 ghost use Rattle.life_script.specs.ScriptView.{ScriptView};
 ghost use Rattle.life_script.specs.declared.scenario.Limits.{Limits as LimitsView};
-ghost use Rattle.life_stack.specs.Driven.{BodyMay, DriveStack as StackView, FutureLive, FutureMay, StackMay, StackStands, drive_ends};
-ghost use Rattle.life_stack.specs.LiveAt.{LiveAt, MayGoOn, Shown};
+ghost use Rattle.life_stack.specs.Driven.{BodyMay, FutureLive, FutureMay, StackMay, StackStands, drive_ends};
+ghost use Rattle.life_stack.specs.LiveAt.{HasRoom, IsIdle, LiveAt, MayGoOn, Shown};
 ghost use Rattle.life_stack.specs.Own.{NotBefore, Own};
 ghost use Rattle.life_stack.specs.StandsAt.{BodyAt, FreshAt, FutureAt};
-ghost use Rattle.life_stack.specs.RanTo.{Ended};
+ghost use Rattle.life_stack.specs.Exchanged.{Ended};
 
+use crate::ext::Ext;
 use crate::script_service::ScriptBody;
 use crate::stack::{
     DriveBody, DriveFuture, DriveStack, abandon_body, abandon_future, call_stack, poll_body,
@@ -57,7 +58,7 @@ fn give_up(body: DriveBody, no_memory: NoMemory, cx: &mut Cx<'_, Log>) -> Got<(L
 
 /// A response, whose body is live from now on; `left` is how its future was given up.
 fn respond(
-    response: Response<DriveBody, ()>,
+    response: Response<DriveBody, Ext>,
     left: Got<()>,
     cx: &mut Cx<'_, Log>,
 ) -> Got<(Live, Answer)>
@@ -84,8 +85,8 @@ fn poll_waiting(mut future: DriveFuture<Log>, cx: &mut Cx<'_, Log>) -> Got<(Live
     requires live { FutureLive future }
     requires may { FutureMay future }
     ensures may { IfOk result (λ p. MayGoOn p.0) }
-    ensures shown { (limits : LimitsView) (script : ScriptView) (acts : List Own) (stack : StackView) → FutureAt limits script acts future
-        → IfOk result (λ p. Shown limits script acts (cx.old.now, Act.Poll) (⟦<Log as Recorder>⟧.recorded cx.old.rec.now) stack p (⟦<Log as Recorder>⟧.recorded cx.new.rec.now)) }
+    ensures shown { (limits : LimitsView) (script : ScriptView) (acts : List Own) → FutureAt limits script acts future
+        → IfOk result (λ p. Shown limits script acts (cx.old.now, Act.Poll) (⟦<Log as Recorder>⟧.recorded cx.old.rec.now) p (⟦<Log as Recorder>⟧.recorded cx.new.rec.now)) }
     ensures context { SameContext ⟦<Log as Recorder>⟧.place cx.old cx.new }
 {
     match poll_future(&mut future, cx) {
@@ -109,8 +110,8 @@ fn poll_waiting(mut future: DriveFuture<Log>, cx: &mut Cx<'_, Log>) -> Got<(Live
 fn poll_streaming(mut body: DriveBody, cx: &mut Cx<'_, Log>) -> Got<(Live, Answer)>
     requires { BodyMay body }
     ensures may { IfOk result (λ p. MayGoOn p.0) }
-    ensures shown { (limits : LimitsView) (script : ScriptView) (acts : List Own) (stack : StackView) → BodyAt limits script acts body → NotBefore cx.old.now acts
-        → IfOk result (λ p. Shown limits script acts (cx.old.now, Act.Poll) (⟦<Log as Recorder>⟧.recorded cx.old.rec.now) stack p (⟦<Log as Recorder>⟧.recorded cx.new.rec.now)) }
+    ensures shown { (limits : LimitsView) (script : ScriptView) (acts : List Own) → BodyAt limits script acts body → NotBefore cx.old.now acts
+        → IfOk result (λ p. Shown limits script acts (cx.old.now, Act.Poll) (⟦<Log as Recorder>⟧.recorded cx.old.rec.now) p (⟦<Log as Recorder>⟧.recorded cx.new.rec.now)) }
     ensures context { SameContext ⟦<Log as Recorder>⟧.place cx.old cx.new }
 {
     match poll_body(&mut body, cx) {
@@ -132,8 +133,11 @@ fn poll_streaming(mut body: DriveBody, cx: &mut Cx<'_, Log>) -> Got<(Live, Answe
 fn drop_waiting(future: DriveFuture<Log>, cx: &mut Cx<'_, Log>) -> Got<(Live, Answer)>
     requires { FutureMay future }
     ensures may { IfOk result (λ p. MayGoOn p.0) }
-    ensures shown { (limits : LimitsView) (script : ScriptView) (acts : List Own) (stack : StackView) → FutureAt limits script acts future
-        → IfOk result (λ p. Shown limits script acts (cx.old.now, Act.Drop) (⟦<Log as Recorder>⟧.recorded cx.old.rec.now) stack p (⟦<Log as Recorder>⟧.recorded cx.new.rec.now)) }
+    ensures idle { IfOk result (λ p. IsIdle p.0) }
+    ensures done { (limits : LimitsView) (script : ScriptView) (acts : List Own) → FutureAt limits script acts future
+        → 1 ≤ (⟦<Log as Recorder>⟧.recorded cx.old.rec.now).spare → IsOk result }
+    ensures shown { (limits : LimitsView) (script : ScriptView) (acts : List Own) → FutureAt limits script acts future
+        → IfOk result (λ p. Shown limits script acts (cx.old.now, Act.Drop) (⟦<Log as Recorder>⟧.recorded cx.old.rec.now) p (⟦<Log as Recorder>⟧.recorded cx.new.rec.now)) }
     ensures context { SameContext ⟦<Log as Recorder>⟧.place cx.old cx.new }
 {
     match abandon_future(future, cx) {
@@ -146,8 +150,11 @@ fn drop_waiting(future: DriveFuture<Log>, cx: &mut Cx<'_, Log>) -> Got<(Live, An
 fn drop_streaming(body: DriveBody, cx: &mut Cx<'_, Log>) -> Got<(Live, Answer)>
     requires { BodyMay body }
     ensures may { IfOk result (λ p. MayGoOn p.0) }
-    ensures shown { (limits : LimitsView) (script : ScriptView) (acts : List Own) (stack : StackView) → BodyAt limits script acts body
-        → IfOk result (λ p. Shown limits script acts (cx.old.now, Act.Drop) (⟦<Log as Recorder>⟧.recorded cx.old.rec.now) stack p (⟦<Log as Recorder>⟧.recorded cx.new.rec.now)) }
+    ensures idle { IfOk result (λ p. IsIdle p.0) }
+    ensures done { (limits : LimitsView) (script : ScriptView) (acts : List Own) → BodyAt limits script acts body
+        → 1 ≤ (⟦<Log as Recorder>⟧.recorded cx.old.rec.now).spare → IsOk result }
+    ensures shown { (limits : LimitsView) (script : ScriptView) (acts : List Own) → BodyAt limits script acts body
+        → IfOk result (λ p. Shown limits script acts (cx.old.now, Act.Drop) (⟦<Log as Recorder>⟧.recorded cx.old.rec.now) p (⟦<Log as Recorder>⟧.recorded cx.new.rec.now)) }
     ensures context { SameContext ⟦<Log as Recorder>⟧.place cx.old cx.new }
 {
     match abandon_body(body, cx) {
@@ -156,26 +163,28 @@ fn drop_streaming(body: DriveBody, cx: &mut Cx<'_, Log>) -> Got<(Live, Answer)>
     }
 }
 
-/// The first call of the request.
-fn call_fresh(stack: &mut DriveStack, cx: &mut Cx<'_, Log>) -> Got<(Live, Answer)>
+/// The first call of the request of a number.
+fn call_fresh(stack: &mut DriveStack, number: u64, cx: &mut Cx<'_, Log>) -> Got<(Live, Answer)>
     requires { StackMay stack.old }
     ensures may { IfOk result (λ p. MayGoOn p.0) }
     ensures may_stack { StackMay stack.new }
-    ensures shown { (limits : LimitsView) (script : ScriptView) (acts : List Own) → FreshAt limits script acts → StackStands limits script stack.old
-        → IfOk result (λ p. Shown limits script acts (cx.old.now, Act.Call) (⟦<Log as Recorder>⟧.recorded cx.old.rec.now) stack.new p (⟦<Log as Recorder>⟧.recorded cx.new.rec.now)) }
+    ensures kept { (limits : LimitsView) (script : ScriptView) (i : ℕ) → StackStands limits script i stack.old → StackStands limits script i stack.new }
+    ensures shown { (limits : LimitsView) (script : ScriptView) (acts : List Own) → FreshAt limits script acts → StackStands limits script number stack.old
+        → IfOk result (λ p. Shown limits script acts (cx.old.now, Act.Call) (⟦<Log as Recorder>⟧.recorded cx.old.rec.now) p (⟦<Log as Recorder>⟧.recorded cx.new.rec.now)) }
     ensures context { SameContext ⟦<Log as Recorder>⟧.place cx.old cx.new }
 {
-    let request = script_request(cx.alloc);
+    let request = script_request(cx.alloc, number);
     match call_stack(stack, request, cx) {
         Ok(future) => Ok((Live::Future(future), Answer::Called)),
         Err(no_memory) => Err(no_memory),
     }
 }
 
-/// One act, at a time that is not before the acts so far. Where it is refused for memory, all that was live
-/// was given up.
+/// One act of the request of a number, at a time that is not before the acts so far. Where it is refused for
+/// memory, all that was live was given up. A Drop for whose record there is room is not refused.
 pub(crate) fn act_on(
     stack: &mut DriveStack,
+    number: u64,
     live: Live,
     act: Act,
     cx: &mut Cx<'_, Log>,
@@ -184,13 +193,17 @@ pub(crate) fn act_on(
     requires may_stack { StackMay stack.old }
     ensures may { IfOk result (λ p. MayGoOn p.0) }
     ensures may_stack { StackMay stack.new }
-    ensures shown { (limits : LimitsView) (script : ScriptView) (acts : List Own) → LiveAt limits script acts stack.old live → NotBefore cx.old.now acts
-        → IfOk result (λ p. Shown limits script acts (cx.old.now, act) (⟦<Log as Recorder>⟧.recorded cx.old.rec.now) stack.new p (⟦<Log as Recorder>⟧.recorded cx.new.rec.now)) }
+    ensures kept { (limits : LimitsView) (script : ScriptView) (i : ℕ) → StackStands limits script i stack.old → StackStands limits script i stack.new }
+    ensures dropped { (limits : LimitsView) (script : ScriptView) (acts : List Own) → LiveAt limits script acts live → act ≡ Act.Drop
+        → HasRoom live (⟦<Log as Recorder>⟧.recorded cx.old.rec.now).spare → IsOk result }
+    ensures idle { act ≡ Act.Drop → IfOk result (λ p. IsIdle p.0) }
+    ensures shown { (limits : LimitsView) (script : ScriptView) (acts : List Own) → LiveAt limits script acts live → StackStands limits script number stack.old → NotBefore cx.old.now acts
+        → IfOk result (λ p. Shown limits script acts (cx.old.now, act) (⟦<Log as Recorder>⟧.recorded cx.old.rec.now) p (⟦<Log as Recorder>⟧.recorded cx.new.rec.now)) }
     ensures context { SameContext ⟦<Log as Recorder>⟧.place cx.old cx.new }
 {
     match live {
         Live::Fresh => match act {
-            Act::Call => call_fresh(stack, cx),
+            Act::Call => call_fresh(stack, number, cx),
             Act::Poll => Ok((Live::Fresh, Answer::Idle)),
             Act::Drop => Ok((Live::Fresh, Answer::Idle)),
         },
@@ -208,10 +221,12 @@ pub(crate) fn act_on(
     }
 }
 
-/// Gives up what is live at the end.
+/// Gives up what is live at the end. It is not refused where there is room for the record of an early drop.
 pub(crate) fn finish(live: Live, cx: &mut Cx<'_, Log>) -> Got<()>
     requires { MayGoOn live }
-    ensures shown { (limits : LimitsView) (script : ScriptView) (acts : List Own) (stack : StackView) → LiveAt limits script acts stack live
+    ensures done { (limits : LimitsView) (script : ScriptView) (acts : List Own) → LiveAt limits script acts live
+        → HasRoom live (⟦<Log as Recorder>⟧.recorded cx.old.rec.now).spare → IsOk result }
+    ensures shown { (limits : LimitsView) (script : ScriptView) (acts : List Own) → LiveAt limits script acts live
         → IfOk result (λ done. Ended limits script acts cx.old.now (⟦<Log as Recorder>⟧.recorded cx.old.rec.now) (⟦<Log as Recorder>⟧.recorded cx.new.rec.now)) }
     ensures context { SameContext ⟦<Log as Recorder>⟧.place cx.old cx.new }
 {

@@ -1,71 +1,12 @@
-//! The report of a driven scenario.
+//! The text of a report.
 ghost use Rattle.std.specs.Prelude.{◌≡◌, ◌<◌, [], ◌++◌, length, slice_get, Some, IsSome, IfOk, OnOk};
 ghost use Rattle.life_stack.specs.ReportView.{Fits};
 ghost use Rattle.life_stack.specs.Report.{event_lines, turn_of, turn_lines, steps_lines, end_lines, ends_lines, total_line, report_text};
 
+use crate::session::Report;
 use life_core::{Event, Got, Octets};
-use life_script::{Step, Steps, TextBuilder, Told, ToldList, Turn};
+use life_script::{Step, TextBuilder, Told, Turn};
 use std::alloc::Global;
-use std::marker::Model;
-
-/// What is told of each request, with the steps that were made and the time of the end, in nanoseconds.
-/// Each step is of a request that is told of, and each request has one turn for each of its steps.
-#[derive(Debug, Drop)]
-pub struct Report {
-    told: ToldList,
-    steps: Steps,
-    end: u64,
-}
-
-impl Model for Report {
-    ghost use Rattle.life_stack.specs.ReportView.{ReportView, Fits};
-
-    ghost Value = { ReportView };
-
-    ghost view = { λ r. record { told = r.told.items; steps = r.steps.items; end = r.end } };
-
-    ghost invariant = { λ r. Fits r.told.items r.steps.items };
-}
-
-impl Report {
-    /// The report of these.
-    pub(crate) fn new(told: ToldList, steps: Steps, end: u64) -> Report
-        requires { Fits told.items steps.items }
-        ensures { result ≡ record { told = told.items; steps = steps.items; end = end } }
-    {
-        Report { told, steps, end }
-    }
-
-    /// How many requests there are.
-    pub fn requests(&self) -> u64
-        ensures count { result ≡ length self.now.told }
-        ensures fits { Fits self.now.told self.now.steps }
-    {
-        self.told.len()
-    }
-
-    /// What is told of the request of a number.
-    pub fn told(&self, i: u64) -> &Told
-        requires { i < length self.now.told }
-        ensures { slice_get self.now.told i ≡ Some result.now }
-    {
-        &self.told.as_slice()[i as usize]
-    }
-
-    /// The steps, in the order in which they were made.
-    pub fn steps(&self) -> &Steps
-        ensures { result.now.items ≡ self.now.steps }
-    {
-        &self.steps
-    }
-
-    /// The time of the end, in nanoseconds.
-    pub fn end(&self) -> u64
-        ensures { result ≡ self.now.end }
-    {
-        self.end
-    }
-}
 
 /// Puts events, each in a line of its own. What is put stands behind what the text held, here as below.
 fn put_events(alloc: Global, text: &mut TextBuilder, events: &[Event]) -> Got<()>
@@ -161,18 +102,13 @@ fn put_total(alloc: Global, text: &mut TextBuilder, requests: u64, steps: u64, e
 pub fn report_text(alloc: Global, report: &Report) -> Got<Octets>
     ensures { IfOk result (λ octets. octets ≡ report_text report.now) }
 {
-    let told = report.told.as_slice();
-    let steps = report.steps.as_slice();
+    let told = report.all_told();
+    let steps = report.steps().as_slice();
+    let end = report.end();
     let mut text = TextBuilder::new(alloc);
     put_steps(alloc, &mut text, told, steps)?;
-    put_ends(alloc, &mut text, report.end, told)?;
-    put_total(
-        alloc,
-        &mut text,
-        told.len() as u64,
-        steps.len() as u64,
-        report.end,
-    )?;
+    put_ends(alloc, &mut text, end, told)?;
+    put_total(alloc, &mut text, told.len() as u64, steps.len() as u64, end)?;
     Ok(text.finish())
 }
 

@@ -1,16 +1,18 @@
 //! A service that answers by a script.
-ghost use Rattle.std.specs.Prelude.{◌≡◌, ⊤, slice_get, drop};
+ghost use Rattle.std.specs.Prelude.{◌≡◌, ⊤, IfOk, slice_get, drop};
 ghost use Rattle.std.specs.Option.{option_copied};
-ghost use Rattle.life_stack.specs.Script.{ScriptCalls, ScriptReadies, ScriptPolls, ScriptFrames, ScriptLeaves, IsReply, IsDefaultBody, tells_end, hint_of};
+ghost use Rattle.life_stack.specs.Script.{ScriptCalls, ScriptReadies, ScriptPolls, ScriptFrames, ScriptLeaves, IsReply, IsDefaultBody, polls_for, tells_end, hint_of};
 
+use crate::ext::Ext;
 use bytes::Bytes;
 use http_body::{Frame, SizeHint};
 use life_core::{
     Body, Cx, DefaultBody, Future, Got, List, NoMemory, Poll, Recorder, Request, Response,
     ResponseHead, Service, Spend, Text, Twin, give_up_request,
 };
-use life_script::{BodyItem, BodyItems, PollItems, Reply, Script, Then};
+use life_script::{BodyItem, BodyItems, PollItems, Reply, Scripts, Then};
 use std::alloc::Global;
+use std::rc::Rc;
 
 /// The next item of a list, which is then used up.
 fn take_next<'a, T>(items: &'a List<T>, next: &mut u64) -> Option<&'a T>
@@ -145,13 +147,13 @@ impl<L: Recorder> Spend<L> for ScriptFuture {
 }
 
 impl<L: Recorder> Future<L> for ScriptFuture {
-    type Output = Result<Response<ScriptBody, ()>, Text>;
+    type Output = Result<Response<ScriptBody, Ext>, Text>;
 
     ghost live = { λ _. ⊤ };
 
     ghost polls = { ScriptPolls };
 
-    fn poll(&mut self, cx: &mut Cx<'_, L>) -> Got<Poll<Result<Response<ScriptBody, ()>, Text>>> {
+    fn poll(&mut self, cx: &mut Cx<'_, L>) -> Got<Poll<Result<Response<ScriptBody, Ext>, Text>>> {
         let Some(item) = take_next(&self.polls, &mut self.next) else {
             return Ok(Poll::Pending);
         };
@@ -166,7 +168,7 @@ impl<L: Recorder> Future<L> for ScriptFuture {
 }
 
 /// The response of a script.
-fn respond(alloc: Global, reply: Reply) -> Response<ScriptBody, ()>
+fn respond(alloc: Global, reply: Reply) -> Response<ScriptBody, Ext>
     ensures { IsReply reply result }
 {
     let head = ResponseHead::bare(alloc, reply.status);
@@ -176,25 +178,39 @@ fn respond(alloc: Global, reply: Reply) -> Response<ScriptBody, ()>
     }
 }
 
-/// Serves each request by one script.
+/// Serves each request by the script of the number in its extension, and one without such a script as
+/// by a script without items.
 #[derive(Drop)]
 pub struct ScriptService {
-    script: Script,
+    scripts: Rc<Scripts>,
 }
 
 impl ScriptService {
     ghost use Rattle.life_stack.specs.Script.{IsServiceOf};
 
-    /// The service of this script.
-    pub fn new(script: Script) -> ScriptService
-        ensures { IsServiceOf script result }
+    /// The service of these scripts.
+    pub fn new(scripts: Rc<Scripts>) -> ScriptService
+        ensures { IsServiceOf scripts.value.items result }
     {
-        ScriptService { script }
+        ScriptService { scripts }
+    }
+
+    /// The poll items for a request of this number.
+    fn polls_for(&self, alloc: Global, number: Option<u64>) -> Got<PollItems>
+        ensures { IfOk result (λ polls. polls.items ≡ polls_for self.now.scripts.value.items number) }
+    {
+        let Some(number) = number else {
+            return Ok(List::new(alloc));
+        };
+        match self.scripts.get(number) {
+            Some(script) => script.polls.twin_items(alloc),
+            None => Ok(List::new(alloc)),
+        }
     }
 }
 
-impl<L: Recorder> Service<Request<ScriptBody, ()>, L> for ScriptService {
-    type Response = Response<ScriptBody, ()>;
+impl<L: Recorder> Service<Request<ScriptBody, Ext>, L> for ScriptService {
+    type Response = Response<ScriptBody, Ext>;
 
     type Error = Text;
 
@@ -210,8 +226,8 @@ impl<L: Recorder> Service<Request<ScriptBody, ()>, L> for ScriptService {
         Poll::Ready(Ok(()))
     }
 
-    fn call(&mut self, req: Request<ScriptBody, ()>, cx: &mut Cx<'_, L>) -> Got<ScriptFuture> {
-        match self.script.polls.twin_items(cx.alloc) {
+    fn call(&mut self, req: Request<ScriptBody, Ext>, cx: &mut Cx<'_, L>) -> Got<ScriptFuture> {
+        match self.polls_for(cx.alloc, req.ext().number) {
             Ok(polls) => {
                 let (head, body) = req.into_parts();
                 drop(head);

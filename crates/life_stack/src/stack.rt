@@ -1,5 +1,5 @@
 //! The driven stack, and what each of its calls gives by the table of the story.
-ghost use Rattle.std.specs.Prelude.{◌≡◌, List, [], IfOk, IfErr};
+ghost use Rattle.std.specs.Prelude.{◌≡◌, ℕ, List, [], Some, slice_get, IfOk, IfErr};
 ghost use Rattle.http.specs.Request.{IsNewHead};
 ghost use Rattle.life_core.specs.History.{Grew};
 ghost use Rattle.life_core.specs.Moment.{SameContext};
@@ -8,20 +8,23 @@ ghost use Rattle.life_script.specs.ScriptView.{ScriptView};
 ghost use Rattle.life_stack.specs.Driven.{BodyMay, FutureLive, FutureMay, StackMay, StackStands};
 ghost use Rattle.life_stack.specs.Own.{NotBefore, Own};
 ghost use Rattle.life_stack.specs.StandsAt.{BodyAt, BodyPolled, Called, FreshAt, FutureAnswered, FutureAt, FuturePolled};
-ghost use Rattle.life_stack.specs.Script.{IsDefaultBody};
+ghost use Rattle.life_stack.specs.Script.{IsDefaultBody, IsNumbered};
 ghost use Rattle.life_stack.specs.Story.{drops};
 ghost use Rattle.life_script.specs.declared.scenario.Limits.{Limits as LimitsView};
 
+use crate::ext::Ext;
 use crate::script_service::{ScriptBody, ScriptService};
 use bytes::Bytes;
 use http_body::Frame;
 use life_core::{
-    Body, BodyError, Cx, Future, Got, Poll, Recorder, Request, Response, Service, Spend, Text, Twin,
+    Body, BodyError, Cx, Future, Got, NoMemory, Poll, Recorder, Request, Response, Service, Spend,
+    Text,
 };
 use life_drop::on_early_drop::{NoteDrop, NoteDropped, OnEarlyDropBody, OnEarlyDropService};
-use life_script::{Limits, Scenario};
+use life_script::{Limits, Scenario, Scripts};
 use life_time::timeout::{DeadlineBody, ResponseBodyDeadline, Timeout};
 use std::alloc::Global;
+use std::rc::Rc;
 
 /// The layers over the scripted service, from the outside in.
 pub type DriveStack = OnEarlyDropService<
@@ -31,45 +34,69 @@ pub type DriveStack = OnEarlyDropService<
 >;
 
 /// The future of a driven request.
-pub type DriveFuture<L> = <DriveStack as Service<Request<ScriptBody, ()>, L>>::Future;
+pub type DriveFuture<L> = <DriveStack as Service<Request<ScriptBody, Ext>, L>>::Future;
 
 /// The body of a driven response.
 pub type DriveBody = OnEarlyDropBody<DeadlineBody<ScriptBody>, NoteDropped>;
 
-/// The stack with these limits over a service of the scenario's script. The one error is want of memory.
-pub fn drive_stack(alloc: Global, limits: &Limits, scenario: &Scenario) -> Got<DriveStack>
-    ensures stands { IfOk result (StackStands limits.now scenario.now.request) }
-    ensures may { IfOk result StackMay }
+/// The stack with these limits over a service of these scripts.
+pub(crate) fn stack_over(limits: &Limits, scripts: Rc<Scripts>) -> DriveStack
+    ensures stands { (script : ScriptView) (i : ℕ) → slice_get scripts.value.items i ≡ Some script → StackStands limits.now script i result }
+    ensures may { StackMay result }
 {
-    let script = scenario.request.twin(alloc)?;
     let service = Timeout::with_status_code(
-        ScriptService::new(script),
+        ScriptService::new(scripts),
         limits.timeout_status,
         limits.timeout,
     );
     let service = ResponseBodyDeadline::new(service, limits.body_deadline);
-    Ok(OnEarlyDropService::new(service, NoteDrop::new(), NoteDrop::new()))
+    OnEarlyDropService::new(service, NoteDrop::new(), NoteDrop::new())
 }
 
-/// The request of the script: GET `/` in HTTP/1.1, with no headers and a body without items.
-pub fn script_request(alloc: Global) -> Request<ScriptBody, ()>
+/// The stack with these limits over a service of the scenario's scripts, each of which it serves by its
+/// number. The one error is want of memory.
+pub fn drive_stack(alloc: Global, limits: &Limits, scenario: &Scenario) -> Got<DriveStack>
+    ensures stands { (script : ScriptView) (i : ℕ) → slice_get scenario.now.requests i ≡ Some script → IfOk result (StackStands limits.now script i) }
+    ensures may { IfOk result StackMay }
+{
+    let scripts = share(alloc, &scenario.requests)?;
+    Ok(stack_over(limits, scripts))
+}
+
+/// Twins of scripts, to be shared. The one error is want of memory.
+pub(crate) fn share(alloc: Global, scripts: &Scripts) -> Got<Rc<Scripts>>
+    ensures { IfOk result (λ shared. shared.value.items ≡ scripts.now.items) }
+{
+    let scripts = scripts.twin_items(alloc)?;
+    match Rc::new(alloc, scripts) {
+        Ok(shared) => Ok(shared),
+        Err(_) => Err(NoMemory),
+    }
+}
+
+/// The request of a number: GET `/` in HTTP/1.1, with no headers and a body without items.
+pub fn script_request(alloc: Global, number: u64) -> Request<ScriptBody, Ext>
     ensures head { IsNewHead result.head.parts }
+    ensures numbered { IsNumbered number result }
     ensures body { IsDefaultBody result.body }
 {
-    Request::new(alloc, ScriptBody::default(), ())
+    let ext = Ext {
+        number: Some(number),
+    };
+    Request::new(alloc, ScriptBody::default(), ext)
 }
 
-/// Calls the stack, for which the request was not called before. Its future stands at the acts with this
-/// call; the stack stands for what it stood for, also where the call is refused for memory.
+/// Calls the stack with the request of a number, which was not called before. Its future stands at the acts
+/// with this call; the stack stands for what it stood for, also where the call is refused for memory.
 pub fn call_stack<L: Recorder>(
     stack: &mut DriveStack,
-    request: Request<ScriptBody, ()>,
+    request: Request<ScriptBody, Ext>,
     cx: &mut Cx<'_, L>,
 ) -> Got<DriveFuture<L>>
     requires { StackMay stack.old }
-    ensures called { (limits : LimitsView) (script : ScriptView) (acts : List Own) → FreshAt limits script acts → StackStands limits script stack.old
+    ensures called { (limits : LimitsView) (script : ScriptView) (i : ℕ) (acts : List Own) → IsNumbered i request → FreshAt limits script acts → StackStands limits script i stack.old
         → IfOk result (λ f. Called limits script acts cx.old.now (L.recorded cx.old.rec.now) f (L.recorded cx.new.rec.now)) }
-    ensures kept { (limits : LimitsView) (script : ScriptView) → StackStands limits script stack.old → StackStands limits script stack.new }
+    ensures kept { (limits : LimitsView) (script : ScriptView) (i : ℕ) → StackStands limits script i stack.old → StackStands limits script i stack.new }
     ensures may { StackMay stack.new }
     ensures live { IfOk result FutureLive }
     ensures future_may { IfOk result FutureMay }
@@ -83,7 +110,7 @@ pub fn call_stack<L: Recorder>(
 pub fn poll_future<L: Recorder>(
     future: &mut DriveFuture<L>,
     cx: &mut Cx<'_, L>,
-) -> Got<Poll<Result<Response<DriveBody, ()>, Text>>>
+) -> Got<Poll<Result<Response<DriveBody, Ext>, Text>>>
     requires live { FutureLive future.old }
     requires may { FutureMay future.old }
     ensures polled { (limits : LimitsView) (script : ScriptView) (acts : List Own) → FutureAt limits script acts future.old

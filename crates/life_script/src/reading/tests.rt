@@ -1,6 +1,6 @@
 //! Texts that are read, that are bad, and that ask for what is not there yet.
 use super::*;
-use crate::scenario::{Act, BodyItem, PollItem, Step, Then};
+use crate::scenario::{Act, BodyItem, PollItem, Scenario, Step, Then};
 use std::test::Fail;
 
 const GOOD: &str =
@@ -61,11 +61,17 @@ fn reply(items: &[PollItem]) -> Option<(u16, &[u8])> {
     }
 }
 
+/// The same of the first request.
+fn first_reply(scenario: &Scenario) -> Option<(u16, &[u8])> {
+    let script = scenario.requests.get(0)?;
+    reply(script.polls.as_slice())
+}
+
 #[test]
 fn reads_the_reply(rt: HostRuntime) -> Result<(), Fail> {
     let (_, scenario) = read_scenario(rt.alloc(), GOOD.as_bytes())?;
-    let polls = scenario.request.polls.as_slice();
-    assert_eq!(rt; reply(polls), Some((200, b"hi" as &[u8])));
+    assert_eq!(rt; scenario.requests.len(), 1);
+    assert_eq!(rt; first_reply(&scenario), Some((200, b"hi" as &[u8])));
     Ok(())
 }
 
@@ -89,12 +95,12 @@ fn tells_bad_from_not_built(rt: HostRuntime) -> Result<(), Fail> {
         (
             "\"requests\":[",
             "\"requests\":[{\"polls\":[]},",
-            "not built",
+            "good",
         ),
         (
             "\"requests\":[",
             "\"requests\":[],\"others\":[",
-            "not built",
+            "good",
         ),
         ("\"tells\"", "\"headers\":1,\"tells\"", "not built"),
         ("\"timeout\"", "\"byte_limit\":1,\"timeout\"", "not built"),

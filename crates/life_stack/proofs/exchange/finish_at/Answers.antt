@@ -4,8 +4,8 @@ use Rattle.life_core.specs.declared.recorder.NoMemory.{NoMemory}
 use Rattle.life_script.specs.ScriptView.{ScriptView}
 use Rattle.life_script.specs.declared.scenario.Limits.{Limits}
 use Rattle.life_stack.specs.Own.{Own}
-use Rattle.life_stack.specs.RanTo.{Ended}
-use Rattle.life_stack.proofs.driving.finish_at.Goals as goal
+use Rattle.life_stack.specs.Exchanged.{Ended}
+use Rattle.life_stack.proofs.exchange.finish_at.Goals as goal
 
 -- the same end, where the record afterwards is the same
 ended_same : (limits : Limits) (script : ScriptView) (acts : List Own) (end : ℕ) (was now other : Recorded) (r : Result Unit NoMemory) → other ≡ now →
@@ -15,8 +15,9 @@ ended_same limits script acts end was now other (Err x) e h = h
 
 pub returns : goal.returns
 returns c = record {
-  shown = λ limits script acts stack at.
+  done = λ limits script acts at room. c.finish.ensures.done limits script acts at room;
+  shown = λ limits script acts at.
       ended_same limits script acts c.args.at _ _ _ c.finish.result
       (ap (λ l. record { log = l.items; spare = l.spare; rest = (0, 0, 0) }) (c.log-1.given.1 (sym c.finish.ensures.context.recorder)))
-      (c.finish.ensures.shown limits script acts stack at);
+      (c.finish.ensures.shown limits script acts at);
 }

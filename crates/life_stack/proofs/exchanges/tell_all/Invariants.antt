@@ -1,0 +1,18 @@
+use Rattle.std.proofs.Common.{◌≡◌, ◌≤◌, ◌++◌, List, length}
+use Rattle.std.specs.List.{All, AllZip}
+use Rattle.std.specs.Vec.Iter.{into_iter_items, into_iter_len}
+use Rattle.life_stack.specs.LiveAt.{MayGoOn}
+use Rattle.life_stack.specs.SessionView.{Tells}
+use Rattle.life_stack.specs.declared.exchange.Exchange.{Exchange}
+use Rattle.life_stack.proofs.exchanges.tell_all.Given as goal
+
+abbrev pub invariant-loop-exchange : goal.invariant-loop-exchange
+invariant-loop-exchange l = record {
+  may : All (λ (e : Exchange). MayGoOn e.live) (into_iter_items l.rest);
+  count : into_iter_len l.rest ≡ length (into_iter_items l.rest);
+  room : length (into_iter_items l.rest) ≤ l.told.spare;
+  told : (es : List Exchange) × (into_iter_items l.initial.rest ≡ es ++ into_iter_items l.rest) × AllZip (Tells l.end) es l.told.items;
+}
+
+abbrev pub decreases-loop-exchange : goal.decreases-loop-exchange
+decreases-loop-exchange l = into_iter_len l.rest

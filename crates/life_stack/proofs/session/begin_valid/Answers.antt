@@ -1,0 +1,38 @@
+use Rattle.std.proofs.Common.{◌≡◌, List, length, ℕ, ap, ◌∙◌, arith, subst, sym}
+use Rattle.std.specs.List.{AllZip}
+use Rattle.std.specs.Prelude.{slice_get, ◌<◌}
+use Rattle.life_script.specs.ScriptView.{ScenarioView, ScriptView}
+use Rattle.life_script.specs.Valid.{IsValid}
+use Rattle.life_script.specs.declared.scenario.Step.{Step}
+use Rattle.life_script.proofs.CheckLemmas.{valid_requests}
+use Rattle.life_stack.specs.Exchanged.{IsFresh}
+use Rattle.life_stack.specs.SessionView.{Counts}
+use Rattle.life_stack.proofs.Places.{zip_length}
+use Rattle.life_stack.proofs.Sessions.{session_begun}
+use Rattle.life_stack.proofs.session.begin_valid.Goals as goal
+
+pub count_steps-requires : goal.count_steps-requires
+count_steps-requires c = λ k x is.
+    let s = c.args.scenario.now in
+    let within = valid_requests s c.requires k x (ap (λ (l : List Step). slice_get l k) (sym (c.as_slice.ensures ∙ ap (λ (v : ScenarioView). v.steps) c.scenario.view_is)) ∙ is) in
+    subst (λ n. x.request < n) (sym (c.len-requests.ensures ∙ ap (λ (v : ScenarioView). length v.requests) c.scenario.view_is)) within
+
+pub invariant_of-result : goal.invariant_of-result
+invariant_of-result c =
+    let requests : List ScriptView = c.in_ok-scripts.scripts.value.items in
+    let steps : List Step = c.in_ok-steps.steps.items in
+    let scenario : ScenarioView = record { requests = requests; steps = steps; end = c.scenario.inside.end } in
+    let same : scenario ≡ c.args.scenario.now =
+    ap (λ (l : List ScriptView). record { requests = l; steps = steps; end = c.scenario.inside.end }) c.in_ok-scripts.ensures
+    ∙ ap (λ (l : List Step). record { requests = c.scenario.inside.requests.items; steps = l; end = c.scenario.inside.end }) c.in_ok-steps.ensures ∙ c.scenario.view_is in
+    let many : c.len-requests.result ≡ length requests = c.len-requests.ensures ∙ ap (λ (l : List ScriptView). length l) (sym c.in_ok-scripts.ensures) in
+    let counted : Counts c.len-requests.result steps c.in_ok-counts.counts.items =
+    subst (λ (l : List Step). Counts c.len-requests.result l c.in_ok-counts.counts.items) (c.as_slice.ensures ∙ sym c.in_ok-steps.ensures) c.in_ok-counts.ensures in
+    let fresh = subst (λ (l : List ℕ). AllZip IsFresh l c.in_ok-exchanges.exchanges.items) c.as_slice-2.ensures.value c.in_ok-exchanges.ensures.fresh in
+    let each = zip_length IsFresh c.in_ok-counts.counts.items c.in_ok-exchanges.exchanges.items fresh in (
+      session_begun c.args.limits.now scenario c.stack_over.result c.in_ok-counts.counts.items c.in_ok-exchanges.exchanges.items (subst IsValid (sym same) c.requires) c.stack_over.ensures.may
+          (λ script i there. c.stack_over.ensures.stands script i (ap (λ l. slice_get l.items i) c.in-Ok.ensures.cases ∙ there))
+          (subst (λ n. Counts n steps c.in_ok-counts.counts.items) many counted) fresh,
+      c.in_ok-reserve.ensures.items ∙ ap (λ l. l.items) c.new-told.ensures,
+      (let room = c.in_ok-reserve.ensures.room in let all = counted.each_counted in omega (arith, room, all, each)),
+    )
