@@ -1,3 +1,5 @@
 pub mod Due
+pub mod FieldPlaces
 pub mod Growth
 pub mod Pieces
+pub mod Showing

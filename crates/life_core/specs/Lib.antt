@@ -1,5 +1,6 @@
 pub mod Causes
 pub mod Due
+pub mod Fields
 pub mod History
 pub mod Listed
 pub mod Meaning

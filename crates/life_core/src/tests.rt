@@ -2,7 +2,7 @@
 ghost use Rattle.std.specs.Prelude.{⊤};
 
 use super::*;
-use http::{StatusCode, Version};
+use http::{HeaderMap, HeaderName, HeaderValue, StatusCode, Version};
 use std::alloc::Global;
 use std::process::Abort;
 use std::test::Fail;
@@ -202,4 +202,53 @@ fn responses(rt: HostRuntime) {
     assert_eq!(rt; response.status().as_u16(), 404);
     let (head, Nothing) = response.into_parts();
     assert_eq!(rt; head.ext, 0);
+}
+
+/// Puts a value after those of its name.
+fn put(alloc: Global, headers: &mut HeaderMap<HeaderValue>, name: &[u8], value: &[u8]) -> Got<()> {
+    let name = HeaderName::from_bytes(alloc, name).map_err(|_| NoMemory)?;
+    let value = HeaderValue::from_bytes(alloc, value).map_err(|_| NoMemory)?;
+    headers.append(name, value).map_err(|_| NoMemory)?;
+    Ok(())
+}
+
+/// The bytes of a value that is shown.
+fn bytes_of(shown: &Shown) -> &[u8] {
+    match shown {
+        Shown::Plain(bytes) => bytes.as_slice(),
+        Shown::Sensitive => b"hidden",
+    }
+}
+
+/// The name of an entry, with one of its values.
+fn value_at(fields: &Fields, entry: usize, value: usize) -> Option<(&[u8], &[u8])> {
+    let field = fields.as_slice().get(entry)?;
+    let value = field.values().get(value)?;
+    Some((field.name(), bytes_of(value)))
+}
+
+#[test]
+fn fields_are_sorted(rt: HostRuntime) -> Result<(), Fail> {
+    let alloc = rt.alloc();
+    let mut headers = HeaderMap::new(alloc);
+    put(alloc, &mut headers, b"b", b"2")?;
+    put(alloc, &mut headers, b"ab", b"")?;
+    put(alloc, &mut headers, b"B", b"1")?;
+    let fields = Fields::of(alloc, &headers)?;
+    assert_eq!(rt; fields.as_slice().len(), 2);
+    assert_eq!(rt;
+        value_at(&fields, 0, 0),
+        Some((b"ab" as &[u8], b"" as &[u8]))
+    );
+    assert_eq!(rt; value_at(&fields, 0, 1), None);
+    assert_eq!(rt;
+        value_at(&fields, 1, 0),
+        Some((b"b" as &[u8], b"2" as &[u8]))
+    );
+    assert_eq!(rt;
+        value_at(&fields, 1, 1),
+        Some((b"b" as &[u8], b"1" as &[u8]))
+    );
+    assert_eq!(rt; Fields::none(alloc).as_slice().len(), 0);
+    Ok(())
 }

@@ -1,14 +1,22 @@
 -- The verdict on steps, step by step, and what the steps of a valid scenario are.
-use Rattle.std.proofs.Common.{◌≡◌, ℕ, zero, suc, ◌+◌, ◌<◌, ◌≤◌, true, false, List, [], ◌∷◌, length, drop, get_or, Option, Some, None, Result, Ok, Err, sym, refl, ap, ◌∙◌, arith, add-one, subst}
+use Rattle.std.proofs.Common.{◌≡◌, ℕ, zero, suc, ◌+◌, ◌<◌, ◌≤◌, Bool, true, false, cond, List, [], ◌∷◌, length, drop, get_or, Option, Some, None, Result, Ok, Err, sym, refl, ap, ◌∙◌, arith, add-one, subst}
 use Rattle.std.proofs.lemmas.Grind.{common_steps}
-use Rattle.std.specs.Prelude.{slice_get}
+use Rattle.std.specs.Prelude.{slice_get, position}
+use Rattle.std.specs.List.{list_any, position_from}
+use Rattle.std.proofs.lemmas.Bool.{or_parts, ltb-false}
+use Rattle.std.proofs.lemmas.Iterator.Adapters.{position_from-zero}
 use Rattle.std.proofs.Math.Seq.{drop-cons}
 use Rattle.std.proofs.Math.ListN.{drop_of_length-le}
 use Rattle.life_script.specs.declared.error.DriveError.{DriveError}
 use Rattle.life_script.specs.declared.error.DriveError.TheVariants.{ClockBack, NoRequest}
 use Rattle.life_script.specs.declared.scenario.Step.{Step}
-use Rattle.life_script.specs.ScriptView.{ScenarioView}
-use Rattle.life_script.specs.Valid.{is_back, verdict_from, IsValid}
+use Rattle.life_script.specs.ScriptView.{ScriptView, ScenarioView}
+use Rattle.life_script.specs.declared.checks.TheConstants.{MAX_HEADER_VALUES}
+use Rattle.life_script.specs.declared.scenario.BodyItem.TheVariants.{Trailers}
+use Rattle.life_script.specs.declared.scenario.Then.TheVariants.{Respond}
+use Rattle.life_script.specs.Headers.{Headers}
+use Rattle.life_script.specs.Views.{ReplyView}
+use Rattle.life_script.specs.Valid.{is_over, is_item_over, is_reply_over, is_then_over, is_script_over, is_back, verdict_from, unless_over, IsValid, ReplyFits, ScriptFits}
 
 -- where there are r requests
 module _ (r : ℕ) where
@@ -122,12 +130,59 @@ module _ (r : ℕ) where
       let same : y ≡ x = cc in subst (λ (w : Step). w.at ≤ end) same (end_later (n + 1) y.at ys end (first_good n earlier y ys end h).2)
   ends_from n earlier (y ∷ ys) end h (suc k) x is = ends_from (n + 1) (Some y.at) ys end (first_good n earlier y ys end h).2 k x is
 
+-- in a valid scenario nothing is wrong with the headers, nor with the steps
+not_over : (found : Option ℕ) (rest : Result Unit DriveError) → unless_over found rest ≡ Ok tt → (found ≡ None) × (rest ≡ Ok tt)
+not_over (Some i) rest h = absurd (cc)
+not_over None rest h = (refl, h)
+
+steps_good : (s : ScenarioView) → IsValid s → verdict_from (length s.requests) 0 None s.steps s.end ≡ Ok tt
+steps_good s valid = (not_over (position is_script_over s.requests) (verdict_from (length s.requests) 0 None s.steps s.end) valid).1
+
 -- each step of a valid scenario is of a request that there is
 pub valid_requests : (s : ScenarioView) → IsValid s → (k : ℕ) (x : Step) → slice_get s.steps k ≡ Some x → x.request < length s.requests
-valid_requests s valid = requests_from (length s.requests) 0 None s.steps s.end valid
+valid_requests s valid = requests_from (length s.requests) 0 None s.steps s.end (steps_good s valid)
 
 -- the steps of a valid scenario are in the order of their times, and none is past the end
 pub valid_order : (s : ScenarioView) → IsValid s
     → ((j k : ℕ) (x y : Step) → j ≤ k → slice_get s.steps j ≡ Some x → slice_get s.steps k ≡ Some y → x.at ≤ y.at)
     × ((k : ℕ) (x : Step) → slice_get s.steps k ≡ Some x → x.at ≤ s.end)
-valid_order s valid = (order_from (length s.requests) 0 None s.steps s.end valid, ends_from (length s.requests) 0 None s.steps s.end valid)
+valid_order s valid = (order_from (length s.requests) 0 None s.steps s.end (steps_good s valid), ends_from (length s.requests) 0 None s.steps s.end (steps_good s valid))
+
+-- ---- headers
+
+-- no element passes a test that passes at no position
+not_found : (b : Bool) (i : ℕ) (rest : Option ℕ) → cond b (Some i) rest ≡ None → (b ≡ false) × (rest ≡ None)
+not_found true i rest h = absurd (cc)
+not_found false i rest h = (refl, h)
+
+none_passes : {X : Type 0} (p : X → Bool) (xs : List X) (i : ℕ) → position_from p i xs ≡ None → (k : ℕ) (x : X) → slice_get xs k ≡ Some x → p x ≡ false
+none_passes p [] i h k x is = absurd (cc)
+none_passes p (y ∷ ys) i h zero x is = let same : y ≡ x = cc in ap p (sym same) ∙ (not_found (p y) i (position_from p (i + 1) ys) h).0
+none_passes p (y ∷ ys) i h (suc k) x is = none_passes p ys (i + 1) (not_found (p y) i (position_from p (i + 1) ys) h).1 k x is
+
+-- no element passes a test that not any does
+not_any : {X : Type 0} (p : X → Bool) (xs : List X) → list_any p xs ≡ false → (k : ℕ) (x : X) → slice_get xs k ≡ Some x → p x ≡ false
+not_any p [] h k x is = absurd (cc)
+not_any p (y ∷ ys) h zero x is = let same : y ≡ x = cc in ap p (sym same) ∙ (or_parts (p y) (list_any p ys) h).0
+not_any p (y ∷ ys) h (suc k) x is = not_any p ys (or_parts (p y) (list_any p ys) h).1 k x is
+
+fits : (headers : Headers) → is_over headers ≡ false → length headers ≤ MAX_HEADER_VALUES
+fits headers h = ltb-false MAX_HEADER_VALUES (length headers) h
+
+reply_fits : (reply : ReplyView) → is_reply_over reply ≡ false → ReplyFits reply
+reply_fits reply h = let parts = or_parts (is_over reply.headers) (list_any is_item_over reply.body) h in record {
+  headers = fits reply.headers parts.0;
+  trailers = λ k headers is. fits headers (not_any is_item_over reply.body parts.1 k (Trailers headers) is);
+}
+
+script_fits : (script : ScriptView) → is_script_over script ≡ false → ScriptFits script
+script_fits script h = let parts = or_parts (is_over script.headers) (list_any (λ item. is_then_over item.then) script.polls) h in record {
+  headers = fits script.headers parts.0;
+  replies = λ k reply is. reply_fits reply (not_any (λ item. is_then_over item.then) script.polls parts.1 k (record { then = Respond reply }) is);
+}
+
+-- no header list of a valid scenario holds too many values
+pub valid_headers : (s : ScenarioView) → IsValid s → (i : ℕ) (script : ScriptView) → slice_get s.requests i ≡ Some script → ScriptFits script
+valid_headers s valid i script is =
+    let none = (not_over (position is_script_over s.requests) (verdict_from (length s.requests) 0 None s.steps s.end) valid).0 in
+    script_fits script (none_passes is_script_over s.requests 0 (sym (position_from-zero is_script_over s.requests) ∙ none) i script is)

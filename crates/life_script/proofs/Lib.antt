@@ -1,3 +1,4 @@
 pub mod CheckLemmas
+pub mod HeaderLemmas
 pub mod ReadingLemmas
 pub mod ReadingParts

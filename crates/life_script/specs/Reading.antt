@@ -1,17 +1,22 @@
 -- What the bytes of a scenario say.
 use Rattle.std.specs.Prelude.{◌≡◌, ℕ, ◌==◌, ◌&&◌, ◌||◌, List, [], ◌∷◌, Bool, false, cond, codes, bytes_eq, nat_le, is_some, unwrap_or, Option, Some, None, option_map, IsUtf8}
+use Rattle.std.specs.List.{list_all}
+use Rattle.http_header.specs.FieldName.{is_field_name}
+use Rattle.http_header.specs.FieldValue.{FieldValue, plain_value}
+use Rattle.http_header.specs.Token.{lowercase, is_value_byte}
 use Rattle.serde_json.specs.Data.{Data, Items, no_items, item}
 use Rattle.serde_json.specs.Find.{get, as_number, as_u64, as_bool, as_str, as_array}
 use Rattle.serde_json.specs.Read.{read as read_text}
 use Rattle.life_script.specs.declared.scenario.Act.{Act}
 use Rattle.life_script.specs.declared.scenario.Act.TheVariants.{Call, Poll, Drop}
 use Rattle.life_script.specs.declared.scenario.BodyItem.{BodyItem}
-use Rattle.life_script.specs.declared.scenario.BodyItem.TheVariants.{Chunk, Pending as PendingItem}
+use Rattle.life_script.specs.declared.scenario.BodyItem.TheVariants.{Chunk, Trailers, Pending as PendingItem, Fault}
 use Rattle.life_script.specs.declared.scenario.Limits.{Limits}
 use Rattle.life_script.specs.declared.scenario.PollItem.{PollItem}
 use Rattle.life_script.specs.declared.scenario.Step.{Step}
 use Rattle.life_script.specs.declared.scenario.Then.{Then}
-use Rattle.life_script.specs.declared.scenario.Then.TheVariants.{Pending, Respond}
+use Rattle.life_script.specs.declared.scenario.Then.TheVariants.{Pending, Fail, Respond}
+use Rattle.life_script.specs.Headers.{Headers}
 use Rattle.life_script.specs.ScriptView.{ScriptView, ScenarioView}
 use Rattle.life_script.specs.Views.{ReplyView}
 
@@ -92,9 +97,13 @@ abbrev pub list_of : Items → List Data
 list_of no_items = []
 list_of (item d ds) = d ∷ list_of ds
 
+-- the items of an array
+abbrev pub items_in : Data → Option (List Data)
+items_in d = option_map list_of (as_array d)
+
 -- the items of the array at a key
 abbrev pub items_at : List ℕ → Data → Option (List Data)
-items_at key d = option_map list_of (get key d >>= as_array)
+items_at key d = get key d >>= items_in
 
 -- the items of the array at a key, each read by f
 abbrev pub all_at : {A : Type 0} → (Data → Read A) → List ℕ → Data → Read (List A)
@@ -145,29 +154,70 @@ step_of d = as_array d >>= λ ds. step_from (list_of ds)
 abbrev pub step_part : Data → Read Step
 step_part d = needs (step_of d) Good
 
+-- ---- header fields
+
+-- a header name, which is kept in lower case
+abbrev pub name_of : List ℕ → Option (List ℕ)
+name_of text = cond (is_field_name text) (Some (lowercase text)) None
+
+-- a header value: each byte is a tab, or at least 32 and not 127
+abbrev pub value_of : List ℕ → Option FieldValue
+value_of text = cond (list_all is_value_byte text) (Some (plain_value text)) None
+
+-- the texts of two strings
+abbrev pub texts_from : List Data → Option (List ℕ × List ℕ)
+texts_from (a ∷ b ∷ []) = as_str a >>= λ name. as_str b >>= λ value. Some (name, value)
+texts_from _ = None
+
+-- a name and a value
+abbrev pub header_of : List ℕ × List ℕ → Option (List ℕ × FieldValue)
+header_of texts = name_of texts.0 >>= λ name. value_of texts.1 >>= λ value. Some (name, value)
+
+-- a name and a value, as two strings
+abbrev pub pair_part : List Data → Read (List ℕ × FieldValue)
+pair_part ds = needs (texts_from ds >>= header_of) Good
+
+-- a header field: an array of its name and its value
+abbrev pub header_part : Data → Read (List ℕ × FieldValue)
+header_part d = needs (items_in d) pair_part
+
+-- the header fields at a key
+abbrev pub headers_at : List ℕ → Data → Read Headers
+headers_at key d = all_at header_part key d
+
 -- ---- the service
 
--- an item of a body; an object with a key that is not built yet has the shape, whatever stands there
+-- the text at a key
+abbrev pub text_at : List ℕ → Data → Read (List ℕ)
+text_at key d = needs (get key d >>= as_str) Good
+
+-- a chunk of a body
+abbrev pub chunk_part : Data → Read BodyItem
+chunk_part d = read_map Chunk (text_at (codes "data") d)
+
+-- an item of a body: the first of the three keys decides
 abbrev pub body_item_part : Data → Read BodyItem
 body_item_part d =
-    cond (has (codes "trailers") d || has (codes "fault") d) Unbuilt (
     cond (is_string (codes "pending") d) (Good PendingItem) (
-    needs (get (codes "data") d >>= as_str) (λ text. Good (Chunk text))))
+    cond (has (codes "data") d) (chunk_part d) (
+    cond (has (codes "trailers") d) (read_map Trailers (headers_at (codes "trailers") d)) (
+    read_map Fault (text_at (codes "fault") d))))
 
 -- a response
 abbrev pub reply_part : Data → Read ReplyView
 reply_part d =
     needs (status_at (codes "status") d) (λ status.
     needs (get (codes "tells") d >>= as_bool) (λ tells.
-    unbuilt_if (has (codes "headers") d) (
-    read_map (λ body. record { status = status; body = body; tells = tells }) (all_at body_item_part (codes "body") d))))
+    read_both (λ headers body. record { status = status; headers = headers; body = body; tells = tells }) (headers_at (codes "headers") d) (all_at body_item_part (codes "body") d)))
 
--- an answer; an object with a key that is not built yet has the shape, whatever stands there
+-- an answer: the first of the three keys decides, and a panic, which is not built yet, has the shape
+-- whatever stands there
 abbrev pub then_part : Data → Read Then
 then_part d =
-    cond (has (codes "panic") d || has (codes "fail") d) Unbuilt (
     cond (is_string (codes "pending") d) (Good Pending) (
-    needs (get (codes "respond") d) (λ reply. read_map Respond (reply_part reply))))
+    cond (has (codes "panic") d) Unbuilt (
+    cond (has (codes "fail") d) (read_map Fail (text_at (codes "fail") d)) (
+    needs (get (codes "respond") d) (λ reply. read_map Respond (reply_part reply)))))
 
 -- what is done at one poll
 abbrev pub poll_item_part : Data → Read PollItem
@@ -177,11 +227,12 @@ poll_item_part d =
 
 -- whether a request has a key that is not built yet
 abbrev pub has_unbuilt_request : Data → Bool
-has_unbuilt_request d = has (codes "method") d || has (codes "uri") d || has (codes "headers") d || has (codes "body") d || has (codes "call") d
+has_unbuilt_request d = has (codes "method") d || has (codes "uri") d || has (codes "body") d || has (codes "call") d
 
 -- the script of a request
 abbrev pub script_part : Data → Read ScriptView
-script_part d = unbuilt_if (has_unbuilt_request d) (read_map (λ polls. record { polls = polls }) (all_at poll_item_part (codes "polls") d))
+script_part d = unbuilt_if (has_unbuilt_request d) (
+    read_both (λ headers polls. record { headers = headers; polls = polls }) (headers_at (codes "headers") d) (all_at poll_item_part (codes "polls") d))
 
 -- ---- the whole
 

@@ -1,16 +1,19 @@
 -- The exact texts of answers and events.
 use Rattle.std.specs.Prelude.{ℕ, ◌+◌, ◌/◌, ◌%◌, Bool, List, [], ◌∷◌, ◌++◌, codes, decimal, flat_map, nat_lt, nat_le, ◌==◌, ◌&&◌, if◌then◌else◌}
 use Rattle.life_core.specs.Texts.{shown_in}
+use Rattle.http_header.specs.HeaderMap.{Entry, Entries}
 use Rattle.life_core.specs.declared.body.BodyError.{BodyError}
 use Rattle.life_core.specs.declared.body.BodyError.TheVariants.{Elapsed, Inner}
 use Rattle.life_core.specs.declared.event.DropKind.{DropKind}
 use Rattle.life_core.specs.declared.event.DropKind.TheVariants.{Future, Body}
 use Rattle.life_core.specs.declared.event.Event.{Event}
 use Rattle.life_core.specs.declared.event.Event.TheVariants.{Dropped as DroppedEarly}
+use Rattle.life_core.specs.declared.fields.Shown.{Shown}
+use Rattle.life_core.specs.declared.fields.Shown.TheVariants.{Plain, Sensitive}
 use Rattle.life_script.specs.declared.answer.Answer.{Answer}
 use Rattle.life_script.specs.declared.answer.Answer.TheVariants.{Called, Idle, Pending, Response, ServiceError, Frame, End, Fault, Dropped}
 use Rattle.life_script.specs.declared.answer.Seen.{Seen}
-use Rattle.life_script.specs.declared.answer.Seen.TheVariants.{Chunk}
+use Rattle.life_script.specs.declared.answer.Seen.TheVariants.{Chunk, Trailers}
 use Rattle.life_script.specs.declared.scenario.Act.{Act}
 use Rattle.life_script.specs.declared.scenario.Act.TheVariants.{Call, Poll, Drop}
 
@@ -34,21 +37,44 @@ shown bytes = codes "\"" ++ flat_map escaped bytes ++ codes "\""
 abbrev pub end_text : Bool → List ℕ
 end_text ended = if ended then codes "ended" else codes "open"
 
+-- texts with commas between them
+abbrev pub joined : {A : Type 0} → (A → List ℕ) → List A → List ℕ
+joined text [] = []
+joined text (first ∷ others) = text first ++ flat_map (λ other. codes ", " ++ text other) others
+
+-- a header's value
+abbrev pub value_text : Shown → List ℕ
+value_text (Plain bytes) = shown bytes
+value_text Sensitive = codes "Sensitive"
+
+-- a header's values
+abbrev pub values_text : List Shown → List ℕ
+values_text values = joined value_text values
+
+-- a header's name with its values
+abbrev pub entry_text : Entry Shown → List ℕ
+entry_text entry = entry.0 ++ codes ": [" ++ values_text entry.1 ++ codes "]"
+
+-- headers
+abbrev pub fields_text : Entries Shown → List ℕ
+fields_text entries = codes "{" ++ joined entry_text entries ++ codes "}"
+
 -- what a frame held
 abbrev pub seen_text : Seen → List ℕ
 seen_text (Chunk bytes) = codes "data " ++ shown bytes
+seen_text (Trailers trailers) = codes "trailers " ++ fields_text trailers
 
 -- a fault of a body, of which a wrapped body's is shown
 abbrev pub fault_text : BodyError (List ℕ) → List ℕ
 fault_text Elapsed = codes "fault elapsed"
 fault_text (Inner fault) = codes "fault inner " ++ shown fault
 
--- an answer; a response's headers are not shown yet, and their map stands empty
+-- an answer
 abbrev pub answer_text : Answer → List ℕ
 answer_text Called = codes "called"
 answer_text Idle = codes "idle"
 answer_text Pending = codes "pending"
-answer_text (Response status ended) = codes "response " ++ decimal status ++ codes " " ++ end_text ended ++ codes " {}"
+answer_text (Response status headers ended) = codes "response " ++ decimal status ++ codes " " ++ end_text ended ++ codes " " ++ fields_text headers
 answer_text (ServiceError error) = codes "error " ++ shown error
 answer_text (Frame frame ended) = seen_text frame ++ codes " " ++ end_text ended
 answer_text End = codes "end"

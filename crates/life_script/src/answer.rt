@@ -1,11 +1,12 @@
 //! What a step answers.
 use http::StatusCode;
-use life_core::{BodyError, Octets, Text};
+use life_core::{BodyError, Fields, Octets, Text};
 
 /// What a frame held.
 #[derive(Debug, Drop)]
 pub enum Seen {
     Chunk(Octets),
+    Trailers(Fields),
 }
 
 /// What a step answered. `ended` is whether the live body tells its end after this answer.
@@ -16,9 +17,16 @@ pub enum Answer {
     /// There was nothing to do.
     Idle,
     Pending,
-    Response { status: StatusCode, ended: bool },
+    Response {
+        status: StatusCode,
+        headers: Fields,
+        ended: bool,
+    },
     ServiceError(Text),
-    Frame { frame: Seen, ended: bool },
+    Frame {
+        frame: Seen,
+        ended: bool,
+    },
     /// The end of the body.
     End,
     /// A fault of the body.

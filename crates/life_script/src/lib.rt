@@ -4,14 +4,16 @@
 mod answer;
 mod checks;
 mod error;
+mod headers;
 mod reading;
 mod scenario;
 mod texts;
 mod told;
 
 pub use answer::{Answer, Seen};
-pub use checks::check;
+pub use checks::{MAX_HEADER_VALUES, check};
 pub use error::{DriveError, ReadError};
+pub use headers::HeaderList;
 pub use reading::read_scenario;
 pub use scenario::{
     Act, BodyItem, BodyItems, Limits, PollItem, PollItems, Reply, Scenario, Script, Scripts, Step,

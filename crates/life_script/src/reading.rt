@@ -5,6 +5,7 @@ ghost use Rattle.life_script.specs.Reading.{Bad, built, Reads, IsBadScenario, Is
 
 mod client;
 mod fields;
+mod header;
 mod layers;
 mod part;
 mod service;

@@ -1,8 +1,9 @@
 //! What is asked: the limits of the stack, the scripts of the service and the steps of its client.
 ghost use Rattle.std.specs.Prelude.{◌≡◌, IfOk};
 
+use crate::headers::HeaderList;
 use http::StatusCode;
-use life_core::{Got, List, Octets, Twin};
+use life_core::{Got, List, Octets, Text, Twin};
 use std::alloc::Global;
 use std::marker::Model;
 
@@ -21,7 +22,10 @@ pub struct Limits {
 #[derive(Debug, Drop)]
 pub enum BodyItem {
     Chunk(Octets),
+    Trailers(HeaderList),
     Pending,
+    /// A fault, of which this is the text.
+    Fault(Text),
 }
 
 /// What a body gives, poll by poll.
@@ -34,7 +38,15 @@ impl Twin for BodyItem {
                 Ok(bytes) => Ok(BodyItem::Chunk(bytes)),
                 Err(no_memory) => Err(no_memory),
             },
+            BodyItem::Trailers(headers) => match headers.twin(alloc) {
+                Ok(headers) => Ok(BodyItem::Trailers(headers)),
+                Err(no_memory) => Err(no_memory),
+            },
             BodyItem::Pending => Ok(BodyItem::Pending),
+            BodyItem::Fault(text) => match text.twin(alloc) {
+                Ok(text) => Ok(BodyItem::Fault(text)),
+                Err(no_memory) => Err(no_memory),
+            },
         }
     }
 }
@@ -43,6 +55,7 @@ impl Twin for BodyItem {
 #[derive(Debug, Drop)]
 pub struct Reply {
     pub status: StatusCode,
+    pub headers: HeaderList,
     pub body: BodyItems,
     pub tells: bool,
 }
@@ -52,14 +65,16 @@ impl Model for Reply {
 
     ghost Value = { ReplyView };
 
-    ghost view = { λ r. record { status = r.status; body = r.body.items; tells = r.tells } };
+    ghost view = { λ r. record { status = r.status; headers = r.headers; body = r.body.items; tells = r.tells } };
 }
 
 impl Twin for Reply {
     fn twin(&self, alloc: Global) -> Got<Reply> {
+        let headers = self.headers.twin(alloc)?;
         let body = self.body.twin_items(alloc)?;
         Ok(Reply {
             status: self.status,
+            headers,
             body,
             tells: self.tells,
         })
@@ -70,6 +85,8 @@ impl Twin for Reply {
 #[derive(Debug, Drop)]
 pub enum Then {
     Pending,
+    /// An error, of which this is the text.
+    Fail(Text),
     Respond(Reply),
 }
 
@@ -86,6 +103,7 @@ impl Twin for PollItem {
     fn twin(&self, alloc: Global) -> Got<PollItem> {
         let then = match &self.then {
             Then::Pending => Then::Pending,
+            Then::Fail(text) => Then::Fail(text.twin(alloc)?),
             Then::Respond(reply) => Then::Respond(reply.twin(alloc)?),
         };
         Ok(PollItem { then })
@@ -95,6 +113,8 @@ impl Twin for PollItem {
 /// The script of one request.
 #[derive(Debug, Drop)]
 pub struct Script {
+    /// The headers of the request.
+    pub headers: HeaderList,
     pub polls: PollItems,
 }
 
@@ -103,13 +123,14 @@ impl Model for Script {
 
     ghost Value = { ScriptView };
 
-    ghost view = { λ s. record { polls = s.polls.items } };
+    ghost view = { λ s. record { headers = s.headers; polls = s.polls.items } };
 }
 
 impl Twin for Script {
     fn twin(&self, alloc: Global) -> Got<Script> {
+        let headers = self.headers.twin(alloc)?;
         let polls = self.polls.twin_items(alloc)?;
-        Ok(Script { polls })
+        Ok(Script { headers, polls })
     }
 }
 

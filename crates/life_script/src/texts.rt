@@ -1,10 +1,10 @@
 //! The exact texts of answers and events.
 ghost use Rattle.std.specs.Prelude.{◌≡◌, ◌<◌, [], ◌∷◌, ◌++◌, decimal, OnOk, IfOk};
-ghost use Rattle.life_script.specs.Texts.{hex_digit, escaped, shown, end_text, fault_text, answer_text, kind_text, event_text, act_text};
+ghost use Rattle.life_script.specs.Texts.{hex_digit, escaped, shown, end_text, joined, value_text, values_text, entry_text, fields_text, seen_text, fault_text, answer_text, kind_text, event_text, act_text};
 
 use crate::answer::{Answer, Seen};
 use crate::scenario::Act;
-use life_core::{BodyError, DropKind, Event, Got, Octets, Text};
+use life_core::{BodyError, DropKind, Event, Field, Fields, Got, Octets, Shown, Text};
 use std::alloc::Global;
 use std::marker::Model;
 
@@ -116,6 +116,81 @@ impl TextBuilder {
         self.text(if ended { "ended" } else { "open" })
     }
 
+    /// Puts a header's value at the end.
+    fn value(&mut self, value: &Shown) -> Got<()>
+        ensures { OnOk result (self.new ≡ self.old ++ value_text value.now) }
+    {
+        match value {
+            Shown::Plain(bytes) => self.shown(bytes.as_slice()),
+            Shown::Sensitive => self.text("Sensitive"),
+        }
+    }
+
+    /// Puts a header's values at the end, with commas between them.
+    fn values(&mut self, values: &[Shown]) -> Got<()>
+        ensures { OnOk result (self.new ≡ self.old ++ values_text values.now) }
+    {
+        let [first, others @ ..] = values else {
+            return Ok(());
+        };
+        self.value(first)?;
+        for value in others {
+            self.text(", ")?;
+            self.value(value)?;
+        }
+        Ok(())
+    }
+
+    /// Puts a header's name with its values at the end.
+    fn entry(&mut self, field: &Field) -> Got<()>
+        ensures { OnOk result (self.new ≡ self.old ++ entry_text field.now) }
+    {
+        self.bytes(field.name())?;
+        self.text(": [")?;
+        self.values(field.values())?;
+        self.text("]")
+    }
+
+    /// Puts headers at the end, with commas between them.
+    fn entries(&mut self, entries: &[Field]) -> Got<()>
+        ensures { OnOk result (self.new ≡ self.old ++ joined entry_text entries.now) }
+    {
+        let [first, others @ ..] = entries else {
+            return Ok(());
+        };
+        self.entry(first)?;
+        for field in others {
+            self.text(", ")?;
+            self.entry(field)?;
+        }
+        Ok(())
+    }
+
+    /// Puts headers at the end, in braces.
+    fn fields(&mut self, fields: &Fields) -> Got<()>
+        ensures { OnOk result (self.new ≡ self.old ++ fields_text fields.now) }
+    {
+        self.text("{")?;
+        self.entries(fields.as_slice())?;
+        self.text("}")
+    }
+
+    /// Puts what a frame held at the end.
+    fn seen(&mut self, seen: &Seen) -> Got<()>
+        ensures { OnOk result (self.new ≡ self.old ++ seen_text seen.now) }
+    {
+        match seen {
+            Seen::Chunk(chunk) => {
+                self.text("data ")?;
+                self.shown(chunk.as_slice())
+            }
+            Seen::Trailers(trailers) => {
+                self.text("trailers ")?;
+                self.fields(trailers)
+            }
+        }
+    }
+
     /// Puts a fault of a body at the end.
     fn fault(&mut self, fault: &BodyError<Text>) -> Got<()>
         ensures { OnOk result (self.new ≡ self.old ++ fault_text fault.now) }
@@ -137,23 +212,24 @@ impl TextBuilder {
             Answer::Called => self.text("called"),
             Answer::Idle => self.text("idle"),
             Answer::Pending => self.text("pending"),
-            Answer::Response { status, ended } => {
+            Answer::Response {
+                status,
+                headers,
+                ended,
+            } => {
                 self.text("response ")?;
                 self.number(alloc, status.as_u16() as u64)?;
                 self.text(" ")?;
                 self.end(*ended)?;
-                self.text(" {}")
+                self.text(" ")?;
+                self.fields(headers)
             }
             Answer::ServiceError(error) => {
                 self.text("error ")?;
                 self.shown_text(error)
             }
-            Answer::Frame {
-                frame: Seen::Chunk(chunk),
-                ended,
-            } => {
-                self.text("data ")?;
-                self.shown(chunk.as_slice())?;
+            Answer::Frame { frame, ended } => {
+                self.seen(frame)?;
                 self.text(" ")?;
                 self.end(*ended)
             }

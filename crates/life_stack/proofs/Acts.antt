@@ -64,6 +64,18 @@ polls_call ((u, act.Call) ∷ acts) t = polls_call acts t
 polls_call ((u, act.Poll) ∷ acts) t = ap (λ ps. u ∷ ps) (polls_call acts t)
 polls_call ((u, act.Drop) ∷ acts) t = refl
 
+polls_drop : (acts : List Own) (t : ℕ) → polls_before_drop (acts ++ (t, act.Drop) ∷ []) ≡ polls_before_drop acts
+polls_drop [] t = refl
+polls_drop ((u, act.Call) ∷ acts) t = polls_drop acts t
+polls_drop ((u, act.Poll) ∷ acts) t = ap (λ ps. u ∷ ps) (polls_drop acts t)
+polls_drop ((u, act.Drop) ∷ acts) t = refl
+
+polls_dropped : (acts : List Own) (x : Own) (d : ℕ) → first_drop acts ≡ Some d → polls_before_drop (acts ++ x ∷ []) ≡ polls_before_drop acts
+polls_dropped [] x d e = absurd (none≢some e)
+polls_dropped ((u, act.Call) ∷ acts) x d e = polls_dropped acts x d e
+polls_dropped ((u, act.Poll) ∷ acts) x d e = ap (λ ps. u ∷ ps) (polls_dropped acts x d e)
+polls_dropped ((u, act.Drop) ∷ acts) x d e = refl
+
 first_drop_poll : (acts : List Own) (t : ℕ) → first_drop (acts ++ (t, act.Poll) ∷ []) ≡ first_drop acts
 first_drop_poll [] t = refl
 first_drop_poll ((u, act.Call) ∷ acts) t = first_drop_poll acts t
@@ -94,6 +106,12 @@ module _ (before : List Own) (t0 : ℕ) (called : called_at before ≡ Some t0) 
 
   pub polls_after_call : (t : ℕ) → polls (before ++ (t, act.Call) ∷ []) ≡ polls before
   polls_after_call t = ap polls_before_drop (after_kept before (t, act.Call) t0 called) ∙ polls_call (after_call before) t
+
+  pub polls_after_drop : (t : ℕ) → polls (before ++ (t, act.Drop) ∷ []) ≡ polls before
+  polls_after_drop t = ap polls_before_drop (after_kept before (t, act.Drop) t0 called) ∙ polls_drop (after_call before) t
+
+  pub polls_after_dropped : (x : Own) (d : ℕ) → dropped_at before ≡ Some d → polls (before ++ x ∷ []) ≡ polls before
+  polls_after_dropped x d e = ap polls_before_drop (after_kept before x t0 called) ∙ polls_dropped (after_call before) x d e
 
   pub dropped_after_poll : (t : ℕ) → dropped_at (before ++ (t, act.Poll) ∷ []) ≡ dropped_at before
   dropped_after_poll t = ap first_drop (after_kept before (t, act.Poll) t0 called) ∙ first_drop_poll (after_call before) t

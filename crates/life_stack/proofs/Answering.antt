@@ -16,40 +16,43 @@ use Rattle.life_time.proofs.DeadlineFollows.{undue_all}
 use Rattle.life_core.specs.Due.{due}
 use Rattle.life_core.specs.declared.event.DropKind.TheVariants as drop_kind
 use Rattle.life_core.specs.declared.event.Event.{Event}
+use Rattle.life_script.specs.Headers.{map_of}
 use Rattle.life_script.specs.ScriptView.{ScriptView}
 use Rattle.life_script.specs.Views.{ReplyView}
 use Rattle.life_script.specs.declared.answer.Answer.{Answer}
 use Rattle.life_script.specs.declared.answer.Answer.TheVariants as ans
+use Rattle.life_script.specs.declared.answer.Seen.TheVariants as seen
 use Rattle.life_script.specs.declared.scenario.BodyItem.{BodyItem}
 use Rattle.life_script.specs.declared.scenario.BodyItem.TheVariants as body_item
 use Rattle.life_script.specs.declared.scenario.Limits.{Limits}
 use Rattle.life_script.specs.declared.scenario.PollItem.{PollItem}
 use Rattle.life_script.specs.declared.scenario.Then.{Then}
 use Rattle.life_script.specs.declared.scenario.Then.TheVariants as then_
-use Rattle.life_stack.specs.Story.{due_reply, head, tells_after, item_answer, body_answer, by_head, is_ending}
-use Rattle.life_stack.specs.Driven.{item_says, then_says, timed_body_history, future_history}
+use Rattle.life_stack.specs.Story.{Outcome, Replied, due_reply, head, tells_after, shown_headers, item_answer, body_answer, head_answer, later_answer, by_head, is_ending}
+use Rattle.life_stack.specs.Driven.{Head, item_says, then_says, timed_body_history, future_history}
 use Rattle.life_stack.specs.Script.{item_frame}
 use Rattle.life_stack.specs.StandsAt.{BodySaid}
 use Rattle.life_stack.proofs.Heads.{head_of, head_more}
 
 -- what the service says under the timer
-abbrev pub timed_says : Limits → ScriptView → ℕ → ℕ → ℕ → Said ℕ ReplyView (List ℕ)
-timed_says limits script t0 k t = if due t0 limits.timeout t then Gives limits.timeout_status (due_reply limits) else item_says (slice_get script.polls k)
+abbrev pub timed_says : Limits → ScriptView → ℕ → ℕ → ℕ → Said Head ReplyView (List ℕ)
+timed_says limits script t0 k t = if due t0 limits.timeout t then Gives (limits.timeout_status, []) (due_reply limits) else item_says (slice_get script.polls k)
 
--- a reply comes with its own status
-abbrev pub IsPlain : Said ℕ ReplyView (List ℕ) → Type 0
+-- a reply comes with its own head
+abbrev pub IsPlain : Said Head ReplyView (List ℕ) → Type 0
 IsPlain Waits = Unit
-IsPlain (Gives status r) = status ≡ r.status
-IsPlain (Fails x) = ⊥
+IsPlain (Gives head r) = head ≡ (r.status, r.headers)
+IsPlain (Fails x) = Unit
 
 pub timed_plain : (limits : Limits) (script : ScriptView) (t0 k t : ℕ) → IsPlain (timed_says limits script t0 k t)
 timed_plain limits script t0 k t = go (due t0 limits.timeout t) (slice_get script.polls k)
   where
     by_then : (x : Then) → IsPlain (then_says x)
     by_then then_.Pending = tt
+    by_then (then_.Fail error) = tt
     by_then (then_.Respond r) = refl
 
-    go : (b : Bool) (o : Option PollItem) → IsPlain (if b then Gives limits.timeout_status (due_reply limits) else item_says o)
+    go : (b : Bool) (o : Option PollItem) → IsPlain (if b then Gives (limits.timeout_status, []) (due_reply limits) else item_says o)
     go true o = refl
     go false None = tt
     go false (Some item) = by_then item.then
@@ -58,18 +61,18 @@ pub head_said : (limits : Limits) (script : ScriptView) (t0 : ℕ) (ps : List �
     head limits script t0 (ps ++ t ∷ []) ≡ head_of (length ps) (timed_says limits script t0 (length ps) t)
 head_said limits script t0 ps t e = head_more limits script t0 ps t e ∙ go (due t0 limits.timeout t)
   where
-    go : (b : Bool) → (if b then Some (length ps, due_reply limits) else head_of (length ps) (item_says (slice_get script.polls (length ps))))
-        ≡ head_of (length ps) (if b then Gives limits.timeout_status (due_reply limits) else item_says (slice_get script.polls (length ps)))
+    go : (b : Bool) → (if b then Some (length ps, Replied (due_reply limits)) else head_of (length ps) (item_says (slice_get script.polls (length ps))))
+        ≡ head_of (length ps) (if b then Gives (limits.timeout_status, []) (due_reply limits) else item_says (slice_get script.polls (length ps)))
     go true = refl
     go false = refl
 
 -- at h
-pub answer_at_head : (limits : Limits) (ps : List ℕ) (k : ℕ) (r : ReplyView) → by_head limits ps k (Some (k, r)) ≡ ans.Response r.status (tells_after r 0)
-answer_at_head limits ps k r = rw (le-ltb k k (omega arith), eq-eqb k k refl)
+pub answer_at_head : (limits : Limits) (ps : List ℕ) (k : ℕ) (o : Outcome) → by_head limits ps k (Some (k, o)) ≡ head_answer o
+answer_at_head limits ps k o = rw (le-ltb k k (omega arith), eq-eqb k k refl)
 
 -- above h
-pub answer_above_head : (limits : Limits) (ps : List ℕ) (k h : ℕ) (r : ReplyView) → h < k → by_head limits ps k (Some (h, r)) ≡ body_answer limits r (slice_index ps h) (slice_index ps k) (k - suc h)
-answer_above_head limits ps k h r l = rw (le-ltb k h (omega arith), ne_eqb k h (λ e. omega (arith, l, e)))
+pub answer_above_head : (limits : Limits) (ps : List ℕ) (k h : ℕ) (o : Outcome) → h < k → by_head limits ps k (Some (h, o)) ≡ later_answer limits o (slice_index ps h) (slice_index ps k) (k - suc h)
+answer_above_head limits ps k h o l = rw (le-ltb k h (omega arith), ne_eqb k h (λ e. omega (arith, l, e)))
 
 pub last_poll : (ps : List ℕ) (t : ℕ) → slice_index (ps ++ t ∷ []) (length ps) ≡ t
 last_poll ps t = get_or_at ps t [] 0 (length ps) refl
@@ -90,7 +93,9 @@ body_table limits ph r past q l = go (due ph limits.body_deadline q) refl
     by_item : (o : Option BodyItem) → BodySaid (wrapped (item_frame o)) (tells_after r (suc (length past))) (item_answer r (length past) o)
     by_item None = refl
     by_item (Some body_item.Pending) = refl
-    by_item (Some (body_item.Chunk bytes)) = (bytes, refl, refl)
+    by_item (Some (body_item.Chunk bytes)) = (seen.Chunk bytes, refl, refl)
+    by_item (Some (body_item.Trailers trailers)) = (seen.Trailers (shown_headers trailers), (map_of trailers, refl, refl), refl)
+    by_item (Some (body_item.Fault fault)) = refl
 
     go : (b : Bool) → due ph limits.body_deadline q ≡ b →
         BodySaid (if b then Ready (Some (Err Elapsed)) else wrapped (item_frame (slice_get r.body (length past)))) (tells_after r (length (if b then undue ph limits.body_deadline past else q ∷ undue ph limits.body_deadline past)))

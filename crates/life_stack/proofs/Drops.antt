@@ -14,10 +14,11 @@ use Rattle.life_script.specs.declared.scenario.BodyItem.{BodyItem}
 use Rattle.life_script.specs.declared.scenario.BodyItem.TheVariants as body_item
 use Rattle.life_script.specs.declared.scenario.Limits.{Limits}
 use Rattle.life_stack.specs.Own.{Own, called_at, first_drop, polls, dropped_at, drop_time}
-use Rattle.life_stack.specs.Story.{head, tells_after, item_answer, by_head, on_call, on_drop, answer, answers, any_ending, kind_of, drops_at, drops, events_of, turns_after, unless_dropped, at_end, dropped_in, drop_records, story}
+use Rattle.life_stack.specs.Story.{Outcome, Replied, Failed, head, item_answer, head_answer, later_answer, by_head, drop_answer, on_call, on_drop, answer, answers, any_ending, kind_of, drops_at, drops, events_of, turns_after, unless_dropped, at_end, dropped_in, drop_records, story}
 use Rattle.life_core.specs.declared.body.BodyError.TheVariants.{Elapsed}
 use Rattle.life_core.specs.declared.latency.LatencyUnit.TheVariants.{Nanos}
 use Rattle.life_script.specs.ToldView.{TurnView}
+use Rattle.life_stack.proofs.Failing.{Marked, ended_none, marked_none, marked_step}
 use Rattle.life_stack.proofs.Acts.{called_kept, after_now, poll_uncalled, drop_uncalled, dropped_after_poll, dropped_after_call, dropped_now, dropped_kept, answers_push, any_ending_push, kind_of_push}
 
 some≢none : {A : Type 0} {x : A} → Some x ≡ None → ⊥
@@ -64,17 +65,26 @@ module _ (limits : Limits) (script : ScriptView) where
   item_quiet r k None es = refl
   item_quiet r k (Some body_item.Pending) es = refl
   item_quiet r k (Some (body_item.Chunk bytes)) es = refl
+  item_quiet r k (Some (body_item.Trailers trailers)) es = refl
+  item_quiet r k (Some (body_item.Fault fault)) es = refl
 
   -- a choice of answers without events has none
   choice_quiet : (b : Bool) (x y : Answer) (es : List Event) → events_of x es ≡ [] → events_of y es ≡ [] → events_of (if b then x else y) es ≡ []
   choice_quiet true x y es e f = e
   choice_quiet false x y es e f = f
 
-  poll_quiet : (ps : List ℕ) (k : ℕ) (o : Option (ℕ × ReplyView)) (es : List Event) → events_of (by_head limits ps k o) es ≡ []
+  head_quiet : (o : Outcome) (es : List Event) → events_of (head_answer o) es ≡ []
+  head_quiet (Replied r) es = refl
+  head_quiet (Failed error) es = refl
+
+  later_quiet : (o : Outcome) (ph q k : ℕ) (es : List Event) → events_of (later_answer limits o ph q k) es ≡ []
+  later_quiet (Replied r) ph q k es = choice_quiet (due ph limits.body_deadline q) (ans.Fault Elapsed) _ es refl (item_quiet r k (slice_get r.body k) es)
+  later_quiet (Failed error) ph q k es = refl
+
+  poll_quiet : (ps : List ℕ) (k : ℕ) (o : Option (ℕ × Outcome)) (es : List Event) → events_of (by_head limits ps k o) es ≡ []
   poll_quiet ps k None es = refl
-  poll_quiet ps k (Some (h, r)) es =
-      choice_quiet (nat_lt k h) ans.Pending _ es refl (choice_quiet (k == h) (ans.Response r.status (tells_after r 0)) _ es refl
-      (choice_quiet (due (slice_index ps h) limits.body_deadline (slice_index ps k)) (ans.Fault Elapsed) _ es refl (item_quiet r (k - suc h) (slice_get r.body (k - suc h)) es)))
+  poll_quiet ps k (Some (h, o)) es =
+      choice_quiet (nat_lt k h) ans.Pending _ es refl (choice_quiet (k == h) (head_answer o) _ es (head_quiet o es) (later_quiet o (slice_index ps h) (slice_index ps k) (k - suc h) es))
 
   -- an early drop is one
   drops_at_in : (o : Option ℕ) (given : List Answer) (d : ℕ) → dropped_in (drops_at o given d) ≡ drops_at o given d
@@ -103,8 +113,8 @@ module _ (limits : Limits) (script : ScriptView) where
       ∙ ap (λ o. unless_dropped o (drops limits script (before ++ x ∷ [] ++ acts) (drop_time (dropped_at (before ++ x ∷ [] ++ acts)) end))) d
       ∙ ap (λ l. unless_dropped (dropped_at before) (drops limits script l (drop_time (dropped_at l) end))) (append_assoc before (x ∷ []) acts)
 
-  drop_step : (t : ℕ) (before acts : List Own) (end t0 : ℕ) → called_at before ≡ Some t0 → dropped_at before ≡ None → Records (before ++ (t, act.Drop) ∷ []) acts end → Records before ((t, act.Drop) ∷ acts) end
-  drop_step t before acts end t0 c d ih =
+  drop_step : (t : ℕ) (before acts : List Own) (end t0 : ℕ) → called_at before ≡ Some t0 → dropped_at before ≡ None → drop_answer (head limits script t0 (polls before)) ≡ ans.Dropped → Records (before ++ (t, act.Drop) ∷ []) acts end → Records before ((t, act.Drop) ∷ acts) end
+  drop_step t before acts end t0 c d n ih =
       let next = before ++ (t, act.Drop) ∷ [] in
       let now = dropped_now before t0 c t d in
       let called = called_kept before (t, act.Drop) t0 c in
@@ -112,7 +122,7 @@ module _ (limits : Limits) (script : ScriptView) where
       ih ∙ ap (λ o. unless_dropped o (drops limits script (next ++ acts) (drop_time (dropped_at (next ++ acts)) end))) now in
       let joined = append_assoc before ((t, act.Drop) ∷ []) acts in
       let last = dropped_all next acts t0 t called now in
-      ap (λ es. es ++ (told_drops limits script next acts) ++ at_end limits script (before ++ (t, act.Drop) ∷ acts) end) (ap (λ a. dropped_in (events_of a (drops limits script next t))) (ap (λ o. on_drop o (dropped_at before)) c ∙ ap (on_drop (Some t0)) d) ∙ drops_in next t)
+      ap (λ es. es ++ (told_drops limits script next acts) ++ at_end limits script (before ++ (t, act.Drop) ∷ acts) end) (ap (λ a. dropped_in (events_of a (drops limits script next t))) (ap (λ o. on_drop limits script o (dropped_at before) (polls before)) c ∙ ap (λ o. on_drop limits script (Some t0) o (polls before)) d ∙ n) ∙ drops_in next t)
       ∙ append_assoc (drops limits script next t) _ _
       ∙ ap (λ l. drops limits script next t ++ ((told_drops limits script next acts) ++ at_end limits script l end)) (sym joined)
       ∙ ap (λ es. drops limits script next t ++ es) rest
@@ -122,30 +132,50 @@ module _ (limits : Limits) (script : ScriptView) where
       ∙ ap (λ l. drops limits script l (drop_time (dropped_at l) end)) joined
       ∙ ap (λ o. unless_dropped o (drops limits script (before ++ (t, act.Drop) ∷ acts) (drop_time (dropped_at (before ++ (t, act.Drop) ∷ acts)) end))) (sym d)
 
-  step : (x : Own) (before acts : List Own) (end : ℕ) (c d : Option ℕ) → called_at before ≡ c → dropped_at before ≡ d → Records (before ++ x ∷ []) acts end → Records before (x ∷ acts) end
-  step (t, act.Call) before acts end None d c e ih = quiet_step (t, act.Call) before acts end (ap (λ o. events_of (on_call o) (drops limits script (before ++ (t, act.Call) ∷ []) t)) c)
-      (ap first_drop (after_now before t c) ∙ sym (called_where_dropped before c)) ih
-  step (t, act.Poll) before acts end None d c e ih = quiet_step (t, act.Poll) before acts end (rw c)
-      (called_where_dropped (before ++ (t, act.Poll) ∷ []) (poll_uncalled before t c) ∙ sym (called_where_dropped before c)) ih
-  step (t, act.Drop) before acts end None d c e ih = quiet_step (t, act.Drop) before acts end (rw c)
-      (called_where_dropped (before ++ (t, act.Drop) ∷ []) (drop_uncalled before t c) ∙ sym (called_where_dropped before c)) ih
-  step x before acts end (Some t0) (Some d) c e ih = quiet_step x before acts end (ap (λ a. events_of a (drops limits script (before ++ x ∷ []) x.0)) (idle_after before x t0 d c e)) (dropped_kept before t0 c x d e ∙ sym e) ih
-  step (t, act.Call) before acts end (Some t0) None c e ih = quiet_step (t, act.Call) before acts end (ap (λ o. events_of (on_call o) (drops limits script (before ++ (t, act.Call) ∷ []) t)) c) (dropped_after_call before t0 c t) ih
-  step (t, act.Poll) before acts end (Some t0) None c e ih = quiet_step (t, act.Poll) before acts end
-      (rw (c, e) (poll_quiet (polls before ++ t ∷ []) (length (polls before)) (head limits script t0 (polls before ++ t ∷ [])) _)) (dropped_after_poll before t0 c t) ih
-  step (t, act.Drop) before acts end (Some t0) None c e ih = drop_step t before acts end t0 c e ih
+  -- a Drop after a service error
+  failed_step : (t : ℕ) (before acts : List Own) (end t0 : ℕ) → called_at before ≡ Some t0 → dropped_at before ≡ None → drop_answer (head limits script t0 (polls before)) ≡ ans.Idle →
+      any_ending (answers limits script before) ≡ true → Records (before ++ (t, act.Drop) ∷ []) acts end → Records before ((t, act.Drop) ∷ acts) end
+  failed_step t before acts end t0 c d n e ih =
+      let next = before ++ (t, act.Drop) ∷ [] in
+      let a : answer limits script before (t, act.Drop) ≡ ans.Idle = ap (λ o. on_drop limits script o (dropped_at before) (polls before)) c ∙ ap (λ o. on_drop limits script (Some t0) o (polls before)) d ∙ n in
+      ap (λ x. dropped_in (events_of x (drops limits script next t)) ++ (told_drops limits script next acts) ++ at_end limits script (before ++ (t, act.Drop) ∷ acts) end) a
+      ∙ ap (λ l. (told_drops limits script next acts) ++ at_end limits script l end) (sym (append_assoc before ((t, act.Drop) ∷ []) acts))
+      ∙ ih
+      ∙ ap (λ o. unless_dropped o (drops limits script (next ++ acts) (drop_time (dropped_at (next ++ acts)) end))) (dropped_now before t0 c t d)
+      ∙ sym (ended_none limits script before ((t, act.Drop) ∷ acts) (drop_time (dropped_at (before ++ (t, act.Drop) ∷ acts)) end) e)
+      ∙ ap (λ o. unless_dropped o (drops limits script (before ++ (t, act.Drop) ∷ acts) (drop_time (dropped_at (before ++ (t, act.Drop) ∷ acts)) end))) (sym d)
 
-  records : (acts before : List Own) (end : ℕ) → Records before acts end
-  records [] before end = rw append-nil (none (dropped_at before))
+  -- a Drop of what is live, or after a service error
+  any_drop : (t : ℕ) (before acts : List Own) (end t0 : ℕ) (o : Option (ℕ × Outcome)) → Marked limits script before → called_at before ≡ Some t0 → dropped_at before ≡ None → head limits script t0 (polls before) ≡ o →
+      Records (before ++ (t, act.Drop) ∷ []) acts end → Records before ((t, act.Drop) ∷ acts) end
+  any_drop t before acts end t0 None m c d h ih = drop_step t before acts end t0 c d (ap drop_answer h) ih
+  any_drop t before acts end t0 (Some (k, Replied r)) m c d h ih = drop_step t before acts end t0 c d (ap drop_answer h) ih
+  any_drop t before acts end t0 (Some (k, Failed error)) m c d h ih = failed_step t before acts end t0 c d (ap drop_answer h) (m t0 k error c h) ih
+
+  step : (x : Own) (before acts : List Own) (end : ℕ) (c d : Option ℕ) → Marked limits script before → called_at before ≡ c → dropped_at before ≡ d → Records (before ++ x ∷ []) acts end → Records before (x ∷ acts) end
+  step (t, act.Call) before acts end None d m c e ih = quiet_step (t, act.Call) before acts end (ap (λ o. events_of (on_call o) (drops limits script (before ++ (t, act.Call) ∷ []) t)) c)
+      (ap first_drop (after_now before t c) ∙ sym (called_where_dropped before c)) ih
+  step (t, act.Poll) before acts end None d m c e ih = quiet_step (t, act.Poll) before acts end (rw c)
+      (called_where_dropped (before ++ (t, act.Poll) ∷ []) (poll_uncalled before t c) ∙ sym (called_where_dropped before c)) ih
+  step (t, act.Drop) before acts end None d m c e ih = quiet_step (t, act.Drop) before acts end (rw c)
+      (called_where_dropped (before ++ (t, act.Drop) ∷ []) (drop_uncalled before t c) ∙ sym (called_where_dropped before c)) ih
+  step x before acts end (Some t0) (Some d) m c e ih = quiet_step x before acts end (ap (λ a. events_of a (drops limits script (before ++ x ∷ []) x.0)) (idle_after before x t0 d c e)) (dropped_kept before t0 c x d e ∙ sym e) ih
+  step (t, act.Call) before acts end (Some t0) None m c e ih = quiet_step (t, act.Call) before acts end (ap (λ o. events_of (on_call o) (drops limits script (before ++ (t, act.Call) ∷ []) t)) c) (dropped_after_call before t0 c t) ih
+  step (t, act.Poll) before acts end (Some t0) None m c e ih = quiet_step (t, act.Poll) before acts end
+      (rw (c, e) (poll_quiet (polls before ++ t ∷ []) (length (polls before)) (head limits script t0 (polls before ++ t ∷ [])) _)) (dropped_after_poll before t0 c t) ih
+  step (t, act.Drop) before acts end (Some t0) None m c e ih = any_drop t before acts end t0 (head limits script t0 (polls before)) m c e refl ih
+
+  records : (acts before : List Own) (end : ℕ) → Marked limits script before → Records before acts end
+  records [] before end m = rw append-nil (none (dropped_at before))
     where
       none : (d : Option ℕ) → unless_dropped d (drops limits script before end) ≡ unless_dropped d (drops limits script before (drop_time d end))
       none None = refl
       none (Some d) = refl
-  records (x ∷ acts) before end = step x before acts end (called_at before) (dropped_at before) refl refl (records acts (before ++ x ∷ []) end)
+  records (x ∷ acts) before end m = step x before acts end (called_at before) (dropped_at before) m refl refl (records acts (before ++ x ∷ []) end (marked_step limits script before x m))
 
 -- the records of a story: none, or one at the Drop or at the end
 pub drops_once : (limits : Limits) (script : ScriptView) (acts : List Own) (end : ℕ) → drop_records (story limits script acts end) ≡ drops limits script acts (drop_time (dropped_at acts) end)
-drops_once limits script acts end = ap (λ es. told_drops limits script [] acts ++ es) (by_drop (dropped_at acts)) ∙ records limits script acts [] end
+drops_once limits script acts end = ap (λ es. told_drops limits script [] acts ++ es) (by_drop (dropped_at acts)) ∙ records limits script acts [] end (marked_none limits script)
   where
     by_drop : (o : Option ℕ) → dropped_in (unless_dropped o (drops limits script acts end)) ≡ unless_dropped o (drops limits script acts end)
     by_drop None = drops_in limits script acts end

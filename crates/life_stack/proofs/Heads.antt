@@ -10,15 +10,15 @@ use Rattle.life_script.specs.declared.scenario.Limits.{Limits}
 use Rattle.life_script.specs.declared.scenario.PollItem.{PollItem}
 use Rattle.life_script.specs.declared.scenario.Then.{Then}
 use Rattle.life_script.specs.declared.scenario.Then.TheVariants as then_
-use Rattle.life_stack.specs.Story.{next, first_due, later, reply_in, here_or_later, first_reply, earlier, counted, due_reply, head}
+use Rattle.life_stack.specs.Story.{Outcome, Replied, Failed, next, first_due, later, outcome_in, here_or_later, first_outcome, earlier, counted, due_reply, head}
 use Rattle.life_core.specs.History.{Said, Waits, Gives, Fails}
-use Rattle.life_stack.specs.Driven.{then_says, item_says}
+use Rattle.life_stack.specs.Driven.{Head, then_says, item_says}
 
 -- the head that a poll with this index and this answer makes
-abbrev pub head_of : {X : Type 0} → ℕ → Said ℕ ReplyView X → Option (ℕ × ReplyView)
+abbrev pub head_of : ℕ → Said Head ReplyView (List ℕ) → Option (ℕ × Outcome)
 head_of k Waits = None
-head_of k (Gives status r) = Some (k, r)
-head_of k (Fails x) = None
+head_of k (Gives head r) = Some (k, Replied r)
+head_of k (Fails error) = Some (k, Failed error)
 
 if_none : Option ℕ → Option ℕ → Option ℕ
 if_none None x = x
@@ -47,24 +47,24 @@ first_due_below start len (p ∷ ps) k e = go (due start len p) (first_due start
     go false None h e' = absurd (some≢none (sym e'))
     go false (Some j) h e' = let z : suc j ≡ k = cc in omega (arith, z, h j refl)
 
-counted_below : (n k : ℕ) (r : ReplyView) → k < n → counted n (Some (k, r)) ≡ Some (k, r)
+counted_below : (n k : ℕ) (r : Outcome) → k < n → counted n (Some (k, r)) ≡ Some (k, r)
 counted_below n k r l = rw (lt-ltb k n l)
 
-counted_above : (n k : ℕ) (r : ReplyView) → n ≤ k → counted n (Some (k, r)) ≡ None
+counted_above : (n k : ℕ) (r : Outcome) → n ≤ k → counted n (Some (k, r)) ≡ None
 counted_above n k r l = rw (le-ltb k n l)
 
 -- where it counts, or does not
-below_of : (n k : ℕ) (r : ReplyView) (x : ℕ × ReplyView) → counted n (Some (k, r)) ≡ Some x → k < n
+below_of : (n k : ℕ) (r : Outcome) (x : ℕ × Outcome) → counted n (Some (k, r)) ≡ Some x → k < n
 below_of n k r x e = ⊎_elim (λ (t : nat_lt k n ≡ true). ltb-true k n t) (λ (f : nat_lt k n ≡ false). absurd (some≢none (sym e ∙ counted_above n k r (ltb-false k n f)))) (cases_Bool (nat_lt k n))
 
-above_of : (n k : ℕ) (r : ReplyView) → counted n (Some (k, r)) ≡ None → n ≤ k
+above_of : (n k : ℕ) (r : Outcome) → counted n (Some (k, r)) ≡ None → n ≤ k
 above_of n k r e = ⊎_elim (λ (t : nat_lt k n ≡ true). absurd (some≢none (sym (counted_below n k r (ltb-true k n t)) ∙ e))) (λ (f : nat_lt k n ≡ false). ltb-false k n f) (cases_Bool (nat_lt k n))
 
-pub counted_kept : (n m : ℕ) (o : Option (ℕ × ReplyView)) (x : ℕ × ReplyView) → n ≤ m → counted n o ≡ Some x → counted m o ≡ Some x
+pub counted_kept : (n m : ℕ) (o : Option (ℕ × Outcome)) (x : ℕ × Outcome) → n ≤ m → counted n o ≡ Some x → counted m o ≡ Some x
 counted_kept n m None x l e = absurd (some≢none (sym e))
 counted_kept n m (Some (k, r)) x l e = let b = below_of n k r x e in counted_below m k r (omega arith) ∙ sym (counted_below n k r b) ∙ e
 
-counted_earlier_none : (n : ℕ) (u : Option ℕ) (a : Option (ℕ × ReplyView)) (late : ReplyView) → ((k : ℕ) → u ≡ Some k → k < n) → counted n (earlier u a late) ≡ None → (u ≡ None) × (counted n a ≡ None)
+counted_earlier_none : (n : ℕ) (u : Option ℕ) (a : Option (ℕ × Outcome)) (late : Outcome) → ((k : ℕ) → u ≡ Some k → k < n) → counted n (earlier u a late) ≡ None → (u ≡ None) × (counted n a ≡ None)
 counted_earlier_none n None a late h e = (refl, e)
 counted_earlier_none n (Some k) None late h e = absurd (some≢none (sym (counted_below n k late (h k refl)) ∙ e))
 counted_earlier_none n (Some k) (Some (r, reply)) late h e = absurd (go (nat_le k r) refl)
@@ -75,10 +75,10 @@ counted_earlier_none n (Some k) (Some (r, reply)) late h e = absurd (go (nat_le 
 
 -- no due poll so far, and no item that answers below this index
 pub head_none : (limits : Limits) (script : ScriptView) (t0 : ℕ) (ps : List ℕ) → head limits script t0 ps ≡ None →
-    (first_due t0 limits.timeout ps ≡ None) × (counted (length ps) (first_reply script.polls) ≡ None)
-head_none limits script t0 ps e = counted_earlier_none (length ps) (first_due t0 limits.timeout ps) (first_reply script.polls) (due_reply limits) (first_due_below t0 limits.timeout ps) e
+    (first_due t0 limits.timeout ps ≡ None) × (counted (length ps) (first_outcome script.polls) ≡ None)
+head_none limits script t0 ps e = counted_earlier_none (length ps) (first_due t0 limits.timeout ps) (first_outcome script.polls) (Replied (due_reply limits)) (first_due_below t0 limits.timeout ps) e
 
-counted-later : (m : ℕ) (o : Option (ℕ × ReplyView)) → counted (suc m) (later o) ≡ later (counted m o)
+counted-later : (m : ℕ) (o : Option (ℕ × Outcome)) → counted (suc m) (later o) ≡ later (counted m o)
 counted-later m None = refl
 counted-later m (Some (k, r)) = rw (leb-suc-suc (suc k) m) (go (nat_lt k m))
   where
@@ -86,39 +86,41 @@ counted-later m (Some (k, r)) = rw (leb-suc-suc (suc k) m) (go (nat_lt k m))
     go true = refl
     go false = refl
 
-later_none : (o : Option (ℕ × ReplyView)) → later o ≡ None → o ≡ None
+later_none : (o : Option (ℕ × Outcome)) → later o ≡ None → o ≡ None
 later_none None e = refl
 later_none (Some (k, r)) e = absurd (some≢none e)
 
-head_of-later : {X : Type 0} (m : ℕ) (s : Said ℕ ReplyView X) → later (head_of m s) ≡ head_of (suc m) s
+head_of-later : (m : ℕ) (s : Said Head ReplyView (List ℕ)) → later (head_of m s) ≡ head_of (suc m) s
 head_of-later m Waits = refl
 head_of-later m (Gives status r) = refl
 head_of-later m (Fails x) = refl
 
 -- what the item at an index says, of a list with this item at its front
-abbrev says_at : ℕ → Then → List PollItem → Said ℕ ReplyView (List ℕ)
+abbrev says_at : ℕ → Then → List PollItem → Said Head ReplyView (List ℕ)
 says_at zero t items = then_says t
 says_at (suc n) t items = item_says (slice_get items n)
 
-none_below : (o : Option (ℕ × ReplyView)) → counted zero o ≡ None
+none_below : (o : Option (ℕ × Outcome)) → counted zero o ≡ None
 none_below None = refl
 none_below (Some (k, r)) = counted_above 0 k r (omega arith)
 
-reply_step : (n : ℕ) (t : Then) (items : List PollItem) →
-    ((m : ℕ) → counted m (first_reply items) ≡ None → counted (suc m) (first_reply items) ≡ head_of m (item_says (slice_get items m))) →
-    counted n (here_or_later (reply_in t) (first_reply items)) ≡ None → counted (suc n) (here_or_later (reply_in t) (first_reply items)) ≡ head_of n (says_at n t items)
-reply_step zero then_.Pending items ih e = counted-later zero (first_reply items) ∙ ap later (none_below (first_reply items))
-reply_step (suc n) then_.Pending items ih e =
-    counted-later (suc n) (first_reply items)
-    ∙ ap later (ih n (later_none _ (sym (counted-later n (first_reply items)) ∙ e)))
+outcome_step : (n : ℕ) (t : Then) (items : List PollItem) →
+    ((m : ℕ) → counted m (first_outcome items) ≡ None → counted (suc m) (first_outcome items) ≡ head_of m (item_says (slice_get items m))) →
+    counted n (here_or_later (outcome_in t) (first_outcome items)) ≡ None → counted (suc n) (here_or_later (outcome_in t) (first_outcome items)) ≡ head_of n (says_at n t items)
+outcome_step zero then_.Pending items ih e = counted-later zero (first_outcome items) ∙ ap later (none_below (first_outcome items))
+outcome_step (suc n) then_.Pending items ih e =
+    counted-later (suc n) (first_outcome items)
+    ∙ ap later (ih n (later_none _ (sym (counted-later n (first_outcome items)) ∙ e)))
     ∙ head_of-later n (item_says (slice_get items n))
-reply_step zero (then_.Respond r) items ih e = counted_below 1 0 r (omega arith)
-reply_step (suc n) (then_.Respond r) items ih e = absurd (some≢none (sym (counted_below (suc n) 0 r (omega arith)) ∙ e))
+outcome_step zero (then_.Fail error) items ih e = counted_below 1 0 (Failed error) (omega arith)
+outcome_step (suc n) (then_.Fail error) items ih e = absurd (some≢none (sym (counted_below (suc n) 0 (Failed error) (omega arith)) ∙ e))
+outcome_step zero (then_.Respond r) items ih e = counted_below 1 0 (Replied r) (omega arith)
+outcome_step (suc n) (then_.Respond r) items ih e = absurd (some≢none (sym (counted_below (suc n) 0 (Replied r) (omega arith)) ∙ e))
 
-first_reply_at : (n : ℕ) (items : List PollItem) → counted n (first_reply items) ≡ None → counted (suc n) (first_reply items) ≡ head_of n (item_says (slice_get items n))
-first_reply_at n [] e = refl
-first_reply_at zero (item ∷ items) e = reply_step zero item.then items (λ m. first_reply_at m items) e
-first_reply_at (suc n) (item ∷ items) e = reply_step (suc n) item.then items (λ m. first_reply_at m items) e
+first_outcome_at : (n : ℕ) (items : List PollItem) → counted n (first_outcome items) ≡ None → counted (suc n) (first_outcome items) ≡ head_of n (item_says (slice_get items n))
+first_outcome_at n [] e = refl
+first_outcome_at zero (item ∷ items) e = outcome_step zero item.then items (λ m. first_outcome_at m items) e
+first_outcome_at (suc n) (item ∷ items) e = outcome_step (suc n) item.then items (λ m. first_outcome_at m items) e
 
 pub length_push : {A : Type 0} (xs : List A) (x : A) → length (xs ++ x ∷ []) ≡ suc (length xs)
 length_push [] x = refl
@@ -126,18 +128,18 @@ length_push (y ∷ xs) x = ap suc (length_push xs x)
 
 -- the first poll that answers, where none did so far
 pub head_more : (limits : Limits) (script : ScriptView) (t0 : ℕ) (ps : List ℕ) (t : ℕ) → head limits script t0 ps ≡ None →
-    head limits script t0 (ps ++ t ∷ []) ≡ (if due t0 limits.timeout t then Some (length ps, due_reply limits) else head_of (length ps) (item_says (slice_get script.polls (length ps))))
+    head limits script t0 (ps ++ t ∷ []) ≡ (if due t0 limits.timeout t then Some (length ps, Replied (due_reply limits)) else head_of (length ps) (item_says (slice_get script.polls (length ps))))
 unfolding if_none
 head_more limits script t0 ps t e = let was = head_none limits script t0 ps e in
-    rw (length_push ps t, first_due-push t0 limits.timeout ps t, was.0) (go (due t0 limits.timeout t) (first_reply script.polls) was.1 (first_reply_at (length ps) script.polls was.1))
+    rw (length_push ps t, first_due-push t0 limits.timeout ps t, was.0) (go (due t0 limits.timeout t) (first_outcome script.polls) was.1 (first_outcome_at (length ps) script.polls was.1))
   where
-    go : (b : Bool) (a : Option (ℕ × ReplyView)) → counted (length ps) a ≡ None → counted (suc (length ps)) a ≡ head_of (length ps) (item_says (slice_get script.polls (length ps))) →
-        counted (suc (length ps)) (earlier (if b then Some (length ps) else None) a (due_reply limits)) ≡ (if b then Some (length ps, due_reply limits) else head_of (length ps) (item_says (slice_get script.polls (length ps))))
+    go : (b : Bool) (a : Option (ℕ × Outcome)) → counted (length ps) a ≡ None → counted (suc (length ps)) a ≡ head_of (length ps) (item_says (slice_get script.polls (length ps))) →
+        counted (suc (length ps)) (earlier (if b then Some (length ps) else None) a (Replied (due_reply limits))) ≡ (if b then Some (length ps, Replied (due_reply limits)) else head_of (length ps) (item_says (slice_get script.polls (length ps))))
     go false a n f = f
-    go true None n f = counted_below (suc (length ps)) (length ps) (due_reply limits) (omega arith)
-    go true (Some (r, reply)) n f = rw (le-leb (length ps) r (above_of (length ps) r reply n)) (counted_below (suc (length ps)) (length ps) (due_reply limits) (omega arith))
+    go true None n f = counted_below (suc (length ps)) (length ps) (Replied (due_reply limits)) (omega arith)
+    go true (Some (r, reply)) n f = rw (le-leb (length ps) r (above_of (length ps) r reply n)) (counted_below (suc (length ps)) (length ps) (Replied (due_reply limits)) (omega arith))
 
-earlier_kept : (n : ℕ) (u : Option ℕ) (a : Option (ℕ × ReplyView)) (late : ReplyView) (b : Bool) (x : ℕ × ReplyView) → counted n (earlier u a late) ≡ Some x →
+earlier_kept : (n : ℕ) (u : Option ℕ) (a : Option (ℕ × Outcome)) (late : Outcome) (b : Bool) (x : ℕ × Outcome) → counted n (earlier u a late) ≡ Some x →
     counted (suc n) (earlier (if_none u (if b then Some n else None)) a late) ≡ Some x
 unfolding if_none
 earlier_kept n (Some k) a late b x e = counted_kept n (suc n) (earlier (Some k) a late) x (omega arith) e
@@ -146,6 +148,29 @@ earlier_kept n None None late true x e = absurd (some≢none (sym e))
 earlier_kept n None (Some (r, reply)) late true x e = rw (lt-leb n r (below_of n r reply x e)) (counted_kept n (suc n) (Some (r, reply)) x (omega arith) e)
 
 -- once a poll answered, it stays the first
-pub head_kept : (limits : Limits) (script : ScriptView) (t0 : ℕ) (ps : List ℕ) (t : ℕ) (x : ℕ × ReplyView) → head limits script t0 ps ≡ Some x → head limits script t0 (ps ++ t ∷ []) ≡ Some x
+pub head_kept : (limits : Limits) (script : ScriptView) (t0 : ℕ) (ps : List ℕ) (t : ℕ) (x : ℕ × Outcome) → head limits script t0 ps ≡ Some x → head limits script t0 (ps ++ t ∷ []) ≡ Some x
 head_kept limits script t0 ps t x e = rw (length_push ps t, first_due-push t0 limits.timeout ps t)
-    (earlier_kept (length ps) (first_due t0 limits.timeout ps) (first_reply script.polls) (due_reply limits) (due t0 limits.timeout t) x e)
+    (earlier_kept (length ps) (first_due t0 limits.timeout ps) (first_outcome script.polls) (Replied (due_reply limits)) (due t0 limits.timeout t) x e)
+
+-- no poll, no head
+none_counted : (o : Option (ℕ × Outcome)) → counted 0 o ≡ None
+none_counted None = refl
+none_counted (Some (k, r)) = counted_above 0 k r (omega arith)
+
+pub no_head : (limits : Limits) (script : ScriptView) (t0 : ℕ) → head limits script t0 [] ≡ None
+no_head limits script t0 = none_counted (earlier (first_due t0 limits.timeout []) (first_outcome script.polls) (Replied (due_reply limits)))
+
+-- the head is one of the polls
+pub head_below : (limits : Limits) (script : ScriptView) (t0 : ℕ) (ps : List ℕ) (h : ℕ) (o : Outcome) → head limits script t0 ps ≡ Some (h, o) → h < length ps
+head_below limits script t0 ps h o e = go (earlier (first_due t0 limits.timeout ps) (first_outcome script.polls) (Replied (due_reply limits))) e
+  where
+    go : (x : Option (ℕ × Outcome)) → counted (length ps) x ≡ Some (h, o) → h < length ps
+    go None e' = absurd (some≢none (sym e'))
+    go (Some (k, r)) e' =
+        let below = below_of (length ps) k r (h, o) e' in
+        let same : k ≡ h = ap (λ (x : Option (ℕ × Outcome)). index_of x) (sym (counted_below (length ps) k r below) ∙ e') in
+        omega (arith, below, same)
+      where
+        index_of : Option (ℕ × Outcome) → ℕ
+        index_of None = 0
+        index_of (Some (k, r)) = k

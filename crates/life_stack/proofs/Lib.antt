@@ -3,6 +3,7 @@ pub mod Answering
 pub mod DrivenFollows
 pub mod Drops
 pub mod Endings
+pub mod Failing
 pub mod Heads
 pub mod Pieces
 pub mod Places

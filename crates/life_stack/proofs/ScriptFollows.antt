@@ -51,6 +51,7 @@ script_body_follows = record {
 
 then_matches : (t : Then) (a : Poll (Result (Response ScriptBody Ext) (List ℕ))) → Answers t a → Matches Heads ScriptBodyStands (then_says t) a
 then_matches then_.Pending a r = subst (λ x. Matches Heads ScriptBodyStands Waits x) (sym r) tt
+then_matches (then_.Fail error) a r = subst (λ x. Matches Heads ScriptBodyStands (then_says (then_.Fail error)) x) (sym r) refl
 then_matches (then_.Respond reply) (Ready (Ok s)) r = (r.head, record { items = r.body.items; tells = r.body.tells })
 then_matches (then_.Respond reply) (Ready (Err e)) r = absurd r
 then_matches (then_.Respond reply) Pending r = absurd r

@@ -66,7 +66,7 @@ left_other (y ∷ xs) (suc k) r x is q = left_other xs k r x is q
 -- What holds of a session.
 
 no_script : ScriptView
-no_script = record { polls = [] }
+no_script = record { headers = []; polls = [] }
 
 -- where an exchange stands
 pub session_at : (v : SessionView) → IsSession v → (i : ℕ) (e : Exchange) → slice_get v.exchanges i ≡ Some e →

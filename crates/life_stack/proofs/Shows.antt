@@ -1,7 +1,6 @@
 -- What one act shows, by the table.
-use Rattle.std.proofs.Common.{◌≡◌, ℕ, suc, List, [], ◌∷◌, ◌++◌, length, drop, reverse, Bool, Some, None, Ok, refl, sym, ap, ◌∙◌, append-nil}
+use Rattle.std.proofs.Common.{inl, inr, ◌≡◌, ℕ, suc, List, [], ◌∷◌, ◌++◌, length, drop, reverse, Bool, Some, None, Ok, Err, refl, sym, ap, ◌∙◌, append-nil}
 use Rattle.std.specs.Prelude.{slice_index}
-use Rattle.http_body.specs.Frame.{data_frame}
 use Rattle.http_body.specs.declared.frame.Frame.{Frame}
 use Rattle.life_core.specs.Recorded.{Recorded}
 use Rattle.life_core.specs.History.{Grew}
@@ -9,17 +8,18 @@ use Rattle.life_core.specs.declared.poll.Poll.TheVariants.{Ready}
 use Rattle.life_script.specs.declared.answer.Seen.{Seen}
 use Rattle.life_script.specs.ScriptView.{ScriptView}
 use Rattle.life_script.specs.declared.answer.Answer.TheVariants as ans
-use Rattle.life_script.specs.declared.answer.Seen.TheVariants as seen
 use Rattle.life_script.specs.declared.scenario.Act.TheVariants as act
 use Rattle.life_script.specs.declared.scenario.Limits.{Limits}
 use Rattle.life_stack.specs.Own.{Own, called_at, polls, dropped_at}
-use Rattle.life_stack.specs.Story.{head, on_call, on_poll, on_drop, answer, drops, events_of}
+use Rattle.life_stack.specs.Story.{Failed, head, by_head, drop_answer, on_call, on_poll, on_drop, answer, drops, events_of}
 use Rattle.life_stack.specs.Driven.{DriveFuture, DriveBody, drive_ends}
 use Rattle.life_stack.specs.LiveAt.{LiveAt, Shown}
-use Rattle.life_stack.specs.StandsAt.{FreshAt, FutureAt, BodyAt, OverAt, BodyPolled}
+use Rattle.life_stack.specs.StandsAt.{FreshAt, FutureAt, BodyAt, IsGone, OverAt, BodyPolled, FuturePolled, Shows}
 use Rattle.life_stack.specs.declared.live.Live.{Live}
 use Rattle.life_stack.specs.declared.live.Live.TheVariants as live
-use Rattle.life_stack.proofs.Acts.{called_kept, poll_uncalled, drop_uncalled, polls_after_call, dropped_after_call, dropped_now, dropped_kept, not_before_push}
+use Rattle.life_stack.proofs.Acts.{called_kept, poll_uncalled, drop_uncalled, polls_after_call, polls_after_poll, dropped_after_call, dropped_after_poll, dropped_now, dropped_kept, not_before_push}
+use Rattle.life_stack.proofs.Answering.{answer_above_head}
+use Rattle.life_stack.proofs.Heads.{head_below, head_kept}
 use Rattle.life_stack.proofs.Steps.{any_next, kind_next, or_no}
 
 module _ (limits : Limits) (script : ScriptView) (before : List Own) where
@@ -31,30 +31,35 @@ module _ (limits : Limits) (script : ScriptView) (before : List Own) where
       let kind = kind_next limits script before (t, act.Drop) ans.Dropped a in
       rw (more, c, ending, kind) refl
 
-  dropped_shown : (was now : Recorded) (t t0 : ℕ) → called_at before ≡ Some t0 → dropped_at before ≡ None → Grew was now (drops limits script before t) →
+  dropped_shown : (was now : Recorded) (t t0 : ℕ) → called_at before ≡ Some t0 → dropped_at before ≡ None → drop_answer (head limits script t0 (polls before)) ≡ ans.Dropped → Grew was now (drops limits script before t) →
       Shown limits script before (t, act.Drop) was (live.Over, ans.Dropped) now
-  dropped_shown was now t t0 c d g =
-      let a : answer limits script before (t, act.Drop) ≡ ans.Dropped = ap (λ o. on_drop o (dropped_at before)) c ∙ ap (on_drop (Some t0)) d in record {
-        live = record { t0 = t0; d = t; called = called_kept before (t, act.Drop) t0 c; dropped = dropped_now before t0 c t d };
+  dropped_shown was now t t0 c d n g =
+      let a : answer limits script before (t, act.Drop) ≡ ans.Dropped = ap (λ o. on_drop limits script o (dropped_at before) (polls before)) c ∙ ap (λ o. on_drop limits script (Some t0) o (polls before)) d ∙ n in record {
+        live = record { t0 = t0; called = called_kept before (t, act.Drop) t0 c; gone = inl (t, dropped_now before t0 c t d) };
         answer_is = sym a;
         log = g.log ∙ ap (λ es. was.log ++ es) (sym (drops_pushed t t t0 c a) ∙ ap (λ x. events_of x (drops limits script (before ++ (t, act.Drop) ∷ []) t)) (sym a));
       }
 
   pub future_dropped : (f : DriveFuture) (was now : Recorded) (t : ℕ) → FutureAt limits script before f → Grew was now (drops limits script before t) →
       Shown limits script before (t, act.Drop) was (live.Over, ans.Dropped) now
-  future_dropped f was now t at g = dropped_shown was now t at.t0 at.called at.undropped g
+  future_dropped f was now t at g = dropped_shown was now t at.t0 at.called at.undropped (ap drop_answer at.unanswered) g
 
   pub body_dropped : (b : DriveBody) (was now : Recorded) (t : ℕ) → BodyAt limits script before b → Grew was now (drops limits script before t) →
       Shown limits script before (t, act.Drop) was (live.Over, ans.Dropped) now
-  body_dropped b was now t at g = dropped_shown was now t at.t0 at.called at.undropped g
+  body_dropped b was now t at g = dropped_shown was now t at.t0 at.called at.undropped (ap drop_answer at.head_is) g
 
-  -- a chunk
-  pub chunk_shown : (was now : Recorded) (t : ℕ) (f : Frame (List ℕ)) (new : DriveBody) (held : Seen) (ended : Bool) →
-      BodyPolled limits script before t was (Ready (Some (Ok f))) new now → ended ≡ drive_ends new → ((bytes : List ℕ) → f ≡ data_frame bytes → held ≡ seen.Chunk bytes) →
+  -- a service error
+  pub failed_shown : (was mid now : Recorded) (t : ℕ) (error : List ℕ) (new : DriveFuture) → FuturePolled limits script before t was (Ready (Err error)) new mid → Grew mid now [] →
+      Shown limits script before (t, act.Poll) was (live.Over, ans.ServiceError error) now
+  failed_shown was mid now t error new p g = record { live = p.left.1; answer_is = sym p.said; log = g.log ∙ append-nil mid.log ∙ p.grew.log }
+
+  -- a frame
+  pub frame_shown : (was now : Recorded) (t : ℕ) (f : Frame (List ℕ)) (new : DriveBody) (held : Seen) (ended : Bool) →
+      BodyPolled limits script before t was (Ready (Some (Ok f))) new now → ended ≡ drive_ends new → ((s : Seen) → Shows s f → held ≡ s) →
       Shown limits script before (t, act.Poll) was (live.Body new, ans.Frame held ended) now
-  chunk_shown was now t f new held ended p e s = record {
+  frame_shown was now t f new held ended p e s = record {
     live = p.left;
-    answer_is = ap (λ x. ans.Frame x ended) (s p.said.0 p.said.1) ∙ ap (ans.Frame (seen.Chunk p.said.0)) e ∙ sym p.said.2;
+    answer_is = ap (λ x. ans.Frame x ended) (s p.said.0 p.said.1) ∙ ap (ans.Frame p.said.0) e ∙ sym p.said.2;
     log = p.grew.log;
   }
 
@@ -80,7 +85,7 @@ module _ (limits : Limits) (script : ScriptView) (before : List Own) where
 
   pub fresh_dropped : (was : Recorded) (t : ℕ) → FreshAt limits script before → Shown limits script before (t, act.Drop) was (live.Fresh, ans.Idle) was
   fresh_dropped was t at =
-      let a = ap (λ c. on_drop c (dropped_at before)) at.uncalled in
+      let a = ap (λ c. on_drop limits script c (dropped_at before) (polls before)) at.uncalled in
       idle_shown was (t, act.Drop) live.Fresh a (fresh_more (t, act.Drop) at a (drop_uncalled before t at.uncalled))
 
   pub future_called : (was : Recorded) (f : DriveFuture) (t : ℕ) → FutureAt limits script before f → Shown limits script before (t, act.Call) was (live.Future f, ans.Idle) was
@@ -122,11 +127,24 @@ module _ (limits : Limits) (script : ScriptView) (before : List Own) where
         stands = at.stands;
       })
 
-  over_answer : (x : Own) → OverAt before → answer limits script before x ≡ ans.Idle
-  over_answer (t, act.Call) at = ap on_call at.called
-  over_answer (t, act.Poll) at = ap (λ c. on_poll limits script c (dropped_at before) (polls before ++ t ∷ []) (length (polls before))) at.called
-      ∙ ap (λ d. on_poll limits script (Some at.t0) d (polls before ++ t ∷ []) (length (polls before))) at.dropped
-  over_answer (t, act.Drop) at = ap (λ c. on_drop c (dropped_at before)) at.called ∙ ap (on_drop (Some at.t0)) at.dropped
+  -- after a Drop, and after a service error, all is idle
+  gone_answer : (x : Own) (t0 : ℕ) → called_at before ≡ Some t0 → IsGone limits script t0 before → answer limits script before x ≡ ans.Idle
+  gone_answer (t, act.Call) t0 c g = ap on_call c
+  gone_answer (t, act.Poll) t0 c (inl g) = ap (λ o. on_poll limits script o (dropped_at before) (polls before ++ t ∷ []) (length (polls before))) c
+      ∙ ap (λ o. on_poll limits script (Some t0) o (polls before ++ t ∷ []) (length (polls before))) g.1
+  gone_answer (t, act.Poll) t0 c (inr g) = ap (λ o. on_poll limits script o (dropped_at before) (polls before ++ t ∷ []) (length (polls before))) c
+      ∙ ap (λ o. on_poll limits script (Some t0) o (polls before ++ t ∷ []) (length (polls before))) g.2
+      ∙ ap (by_head limits (polls before ++ t ∷ []) (length (polls before))) (head_kept limits script t0 (polls before) t (g.0, Failed g.1) g.3)
+      ∙ answer_above_head limits (polls before ++ t ∷ []) (length (polls before)) g.0 (Failed g.1) (head_below limits script t0 (polls before) g.0 (Failed g.1) g.3)
+  gone_answer (t, act.Drop) t0 c (inl g) = ap (λ o. on_drop limits script o (dropped_at before) (polls before)) c ∙ ap (λ o. on_drop limits script (Some t0) o (polls before)) g.1
+  gone_answer (t, act.Drop) t0 c (inr g) = ap (λ o. on_drop limits script o (dropped_at before) (polls before)) c ∙ ap (λ o. on_drop limits script (Some t0) o (polls before)) g.2
+      ∙ ap drop_answer g.3
 
-  pub over_idle : (was : Recorded) (x : Own) → OverAt before → Shown limits script before x was (live.Over, ans.Idle) was
-  over_idle was x at = idle_shown was x live.Over (over_answer x at) (record { t0 = at.t0; d = at.d; called = called_kept before x at.t0 at.called; dropped = dropped_kept before at.t0 at.called x at.d at.dropped })
+  gone_more : (x : Own) (t0 : ℕ) → called_at before ≡ Some t0 → IsGone limits script t0 before → IsGone limits script t0 (before ++ x ∷ [])
+  gone_more x t0 c (inl g) = inl (g.0, dropped_kept before t0 c x g.0 g.1)
+  gone_more (t, act.Call) t0 c (inr g) = inr (g.0, g.1, dropped_after_call before t0 c t ∙ g.2, ap (head limits script t0) (polls_after_call before t0 c t) ∙ g.3)
+  gone_more (t, act.Poll) t0 c (inr g) = inr (g.0, g.1, dropped_after_poll before t0 c t ∙ g.2, ap (head limits script t0) (polls_after_poll before t0 c t g.2) ∙ head_kept limits script t0 (polls before) t (g.0, Failed g.1) g.3)
+  gone_more (t, act.Drop) t0 c (inr g) = inl (t, dropped_now before t0 c t g.2)
+
+  pub over_idle : (was : Recorded) (x : Own) → OverAt limits script before → Shown limits script before x was (live.Over, ans.Idle) was
+  over_idle was x at = idle_shown was x live.Over (gone_answer x at.t0 at.called at.gone) (record { t0 = at.t0; called = called_kept before x at.t0 at.called; gone = gone_more x at.t0 at.called at.gone })

@@ -1,9 +1,10 @@
 -- Each call of the driven stack steps by the table.
-use Rattle.std.proofs.Common.{◌≡◌, ℕ, suc, ◌-◌, ◌<◌, List, [], ◌∷◌, ◌++◌, length, drop, reverse, Bool, true, false, Option, Some, None, Ok, Err, Result, IfOk, IfErr, refl, sym, ap, ◌∙◌, subst, arith, le-ltb}
+use Rattle.std.proofs.Common.{inl, inr, ◌≡◌, ℕ, suc, ◌-◌, ◌<◌, List, [], ◌∷◌, ◌++◌, length, drop, reverse, Bool, true, false, Option, Some, None, Ok, Err, Result, IfOk, IfErr, refl, sym, ap, ◌∙◌, subst, arith, le-ltb}
 use Rattle.std.specs.Prelude.{slice_index, if◌then◌else◌, ◌||◌}
 use Rattle.std.proofs.Common.{drop_of_length-le}
 use Rattle.std.proofs.lemmas.List.{reverse-append, drop-append-le}
 use Rattle.http_body.specs.declared.frame.Frame.{Frame}
+use Rattle.life_core.specs.Fields.{fields}
 use Rattle.life_core.specs.Meaning.{Answer as BodyAnswer, Reply}
 use Rattle.life_core.specs.Moment.{Moment}
 use Rattle.life_core.specs.Recorded.{Recorded}
@@ -26,13 +27,13 @@ use Rattle.life_script.specs.declared.answer.Answer.TheVariants as ans
 use Rattle.life_script.specs.declared.scenario.Act.TheVariants as act
 use Rattle.life_script.specs.declared.scenario.Limits.{Limits}
 use Rattle.life_stack.specs.Own.{Own, NotBefore, polls_before_drop, first_drop, polls, dropped_at}
-use Rattle.life_stack.specs.Story.{first_due, first_reply, earlier, counted, due_reply, head, tells_after, body_answer, by_head, on_call, on_poll, answer, answers, is_ending, any_ending, kind_after, kind_of, drops, events_of}
-use Rattle.life_stack.specs.Driven.{DriveStack, DriveFuture, DriveBody, drive_calls, drive_polls, drive_leaves, drive_frames, drive_body_leaves, drive_ends, Heads, Plan, plan, StackStands, FutureStands, BodyStands, future_history, body_history, timed_body_history}
+use Rattle.life_stack.specs.Story.{Outcome, Replied, Failed, shown_headers, head, tells_after, body_answer, by_head, on_call, on_poll, answer, answers, is_ending, any_ending, kind_after, kind_of, drops, events_of}
+use Rattle.life_stack.specs.Driven.{DriveStack, DriveFuture, DriveBody, drive_calls, drive_polls, drive_leaves, drive_frames, drive_body_leaves, drive_ends, Head, Heads, Plan, plan, StackStands, FutureStands, BodyStands, future_history, body_history, timed_body_history}
 use Rattle.life_stack.specs.StandsAt.{FreshAt, FutureAt, FutureAnswered, BodyAt, FutureSaid, FutureLeft, FuturePolled, BodySaid, BodyPolled, Called}
 use Rattle.life_stack.specs.Script.{IsNumbered}
 use Rattle.life_stack.specs.declared.ext.Ext.{Ext}
 use Rattle.life_stack.specs.declared.script_service.ScriptBody.{ScriptBody}
-use Rattle.life_stack.proofs.Heads.{head_of, head_kept, length_push}
+use Rattle.life_stack.proofs.Heads.{head_of, head_kept, length_push, no_head}
 use Rattle.life_stack.proofs.Acts.{called_kept, called_now, after_now, polls_after_poll, dropped_after_poll, answers_push, any_ending_push, kind_of_push, not_before_push}
 use Rattle.life_stack.proofs.Answering.{timed_says, IsPlain, timed_plain, head_said, answer_at_head, answer_above_head, last_poll, earlier_poll, ending_said, body_table, future_events, frame_events}
 use Rattle.life_stack.proofs.DrivenFollows.{future_follows, body_follows, stack_follows, stack_keeps}
@@ -49,13 +50,6 @@ module _ (limits : Limits) (script : ScriptView) where
   or_no false = refl
 
   -- The first Call.
-  none_counted : (o : Option (ℕ × ReplyView)) → counted 0 o ≡ None
-  none_counted None = refl
-  none_counted (Some (k, r)) = rw (le-ltb k 0 (omega arith))
-
-  no_head : (t : ℕ) → head limits script t [] ≡ None
-  no_head t = none_counted (earlier (first_due t limits.timeout []) (first_reply script.polls) (due_reply limits))
-
   called_steps : (before : List Own) (t : ℕ) (was : Recorded) (f : DriveFuture) (now : Recorded) → FreshAt limits script before → FutureStands limits script t f (Waiting []) → Grew was now [] → Called limits script before t was f now
   called_steps before t was f now at s g =
       let a : answer limits script before (t, act.Call) ≡ ans.Called = ap on_call at.uncalled in
@@ -68,7 +62,7 @@ module _ (limits : Limits) (script : ScriptView) where
           undropped = ap first_drop (after_now before t at.uncalled);
           past_is = ap reverse (sym no_polls);
           polled = ap length (sym no_polls);
-          unanswered = ap (head limits script t) no_polls ∙ no_head t;
+          unanswered = ap (head limits script t) no_polls ∙ no_head limits script t;
           no_ending = any_next before (t, act.Call) ans.Called a ∙ or_no _ ∙ at.no_ending;
           kind = kind_next before (t, act.Call) ans.Called a ∙ at.kind;
           stands = s;
@@ -93,7 +87,7 @@ module _ (limits : Limits) (script : ScriptView) where
   said_quiet (Ready (Err e)) x es s = ap (λ y. events_of y es) s
 
   module _ (before : List Own) (f : DriveFuture) (at : FutureAt limits script before f) where
-    poll_by_head : (t : ℕ) (o : Option (ℕ × ReplyView)) → head limits script at.t0 (polls before ++ t ∷ []) ≡ o → answer limits script before (t, act.Poll) ≡ by_head limits (polls before ++ t ∷ []) (length (polls before)) o
+    poll_by_head : (t : ℕ) (o : Option (ℕ × Outcome)) → head limits script at.t0 (polls before ++ t ∷ []) ≡ o → answer limits script before (t, act.Poll) ≡ by_head limits (polls before ++ t ∷ []) (length (polls before)) o
     poll_by_head t o e =
         ap (λ c. on_poll limits script c (dropped_at before) (polls before ++ t ∷ []) (length (polls before))) at.called
         ∙ ap (λ d. on_poll limits script (Some at.t0) d (polls before ++ t ∷ []) (length (polls before))) at.undropped
@@ -102,9 +96,9 @@ module _ (limits : Limits) (script : ScriptView) where
     polled_more : (t : ℕ) → polls (before ++ (t, act.Poll) ∷ []) ≡ polls before ++ t ∷ []
     polled_more t = polls_after_poll before at.t0 at.called t at.undropped
 
-    by_answer : (t : ℕ) (new : DriveFuture) (said : Said ℕ ReplyView (List ℕ)) (a : Poll (Result (Response DriveBody Ext) (List ℕ))) →
+    by_answer : (t : ℕ) (new : DriveFuture) (said : Said Head ReplyView (List ℕ)) (a : Poll (Result (Response DriveBody Ext) (List ℕ))) →
         head limits script at.t0 (polls before ++ t ∷ []) ≡ head_of (length (polls before)) said → IsPlain said →
-        Matches Heads (BodyStands limits at.t0) (said_under {P = ℕ × ReplyView} {Q = Plan} (λ status p. (status, p)) (said_under {P = ReplyView} {Q = ℕ × ReplyView} (λ status p. (t, p)) said)) a →
+        Matches Heads (BodyStands limits at.t0) (said_under {P = ℕ × ReplyView} {Q = Plan} (λ head p. (head, p)) (said_under {P = ReplyView} {Q = ℕ × ReplyView} (λ head p. (t, p)) said)) a →
         FutureStands limits script at.t0 new (where_after at.past t a) →
         FutureSaid a (answer limits script before (t, act.Poll)) × FutureLeft limits script (before ++ (t, act.Poll) ∷ []) a new
     by_answer t new Waits Pending e plain m stands =
@@ -123,12 +117,15 @@ module _ (limits : Limits) (script : ScriptView) where
             stands = stands;
           },
         )
-    by_answer t new (Gives status r) (Ready (Ok resp)) e plain m stands =
+    by_answer t new (Gives said r) (Ready (Ok resp)) e plain m stands =
         let k = length (polls before) in
-        let a : answer limits script before (t, act.Poll) ≡ ans.Response r.status (tells_after r 0) = poll_by_head t (Some (k, r)) e ∙ answer_at_head limits (polls before ++ t ∷ []) k r in
-        let tells = (body_follows limits at.t0).tells (status, (t, r)) resp.body [] m.1 in
-        let head_is : resp.head.parts.status ≡ r.status = m.0.status_is ∙ plain in (
-          a ∙ sym (ap (λ x. ans.Response x (drive_ends resp.body)) head_is ∙ ap (ans.Response r.status) tells),
+        let given : Answer = ans.Response r.status (shown_headers r.headers) (tells_after r 0) in
+        let a : answer limits script before (t, act.Poll) ≡ given = poll_by_head t (Some (k, Replied r)) e ∙ answer_at_head limits (polls before ++ t ∷ []) k (Replied r) in
+        let tells = (body_follows limits at.t0).tells (said, (t, r)) resp.body [] m.1 in
+        let status_is : resp.head.parts.status ≡ r.status = m.0.status_is ∙ ap (λ h. h.0) plain in
+        let headers_are : fields resp.head.parts.headers ≡ shown_headers r.headers = ap fields m.0.headers_are ∙ ap (λ h. shown_headers h.1) plain in (
+          a ∙ sym (ap (λ x. ans.Response x (fields resp.head.parts.headers) (drive_ends resp.body)) status_is
+          ∙ ap (λ x. ans.Response r.status x (drive_ends resp.body)) headers_are ∙ ap (ans.Response r.status (shown_headers r.headers)) tells),
           (
             record { t0 = at.t0; called = called_kept before (t, act.Poll) at.t0 at.called; stands = stands },
             record {
@@ -144,16 +141,30 @@ module _ (limits : Limits) (script : ScriptView) where
               past_is = ap reverse (sym (ap (drop (suc k)) (polled_more t) ∙ drop_of_length-le (polls before ++ t ∷ []) {i = suc k} (omega (arith, length_push (polls before) t))));
               polled = ap length (polled_more t) ∙ length_push (polls before) t ∙ omega arith;
               latest = λ u n. tt;
-              kind = kind_next before (t, act.Poll) (ans.Response r.status (tells_after r 0)) a;
-              ending = any_next before (t, act.Poll) (ans.Response r.status (tells_after r 0)) a ∙ ap (λ b. b || tells_after r 0) at.no_ending;
+              kind = kind_next before (t, act.Poll) given a;
+              ending = any_next before (t, act.Poll) given a ∙ ap (λ b. b || tells_after r 0) at.no_ending;
               stands = subst (λ x. BodyStands limits at.t0 (x, (t, r)) resp.body []) plain m.1;
             },
           ),
         )
-    by_answer t new (Fails x) a e plain m stands = absurd plain
+    by_answer t new (Fails error) (Ready (Err x)) e plain m stands =
+        let k = length (polls before) in
+        let a : answer limits script before (t, act.Poll) ≡ ans.ServiceError error = poll_by_head t (Some (k, Failed error)) e ∙ answer_at_head limits (polls before ++ t ∷ []) k (Failed error) in (
+          a ∙ ap ans.ServiceError (sym m),
+          (
+            record { t0 = at.t0; called = called_kept before (t, act.Poll) at.t0 at.called; stands = stands },
+            record {
+              t0 = at.t0;
+              called = called_kept before (t, act.Poll) at.t0 at.called;
+              gone = inr (k, error, dropped_after_poll before at.t0 at.called t ∙ at.undropped, ap (head limits script at.t0) (polled_more t) ∙ e);
+            },
+          ),
+        )
+    by_answer t new (Fails error) Pending e plain m stands = absurd m
+    by_answer t new (Fails error) (Ready (Ok resp)) e plain m stands = absurd m
     by_answer t new Waits (Ready x) e plain m stands = absurd m
-    by_answer t new (Gives status r) Pending e plain m stands = absurd m
-    by_answer t new (Gives status r) (Ready (Err x)) e plain m stands = absurd m
+    by_answer t new (Gives said r) Pending e plain m stands = absurd m
+    by_answer t new (Gives said r) (Ready (Err x)) e plain m stands = absurd m
 
     pub future_polled : (was now : Recorded) (m : Moment) (made : Reply DriveBody Ext (List ℕ)) (new : DriveFuture) → drive_polls f was m made new now →
         IfOk made (λ a. FuturePolled limits script before m.now was a new now)
@@ -201,14 +212,14 @@ module _ (limits : Limits) (script : ScriptView) where
         let latest = at.latest t order in
         let tells = (body_follows limits at.t0).tells (plan at.reply at.ph) new (t ∷ at.past) i.stands in
         let more = polls_after_poll before at.t0 at.called t at.undropped in
-        let kept = head_kept limits script at.t0 ps t (at.h, at.reply) at.head_is in
+        let kept = head_kept limits script at.t0 ps t (at.h, Replied at.reply) at.head_is in
         let below : at.h < k = omega (arith, at.polled) in
         let place : k - suc at.h ≡ length at.past = omega (arith, at.polled) in
         let table : answer limits script before (t, act.Poll) ≡ body_answer limits at.reply at.ph t (length at.past) =
         ap (λ c. on_poll limits script c (dropped_at before) (ps ++ t ∷ []) k) at.called
         ∙ ap (λ d. on_poll limits script (Some at.t0) d (ps ++ t ∷ []) k) at.undropped
         ∙ ap (by_head limits (ps ++ t ∷ []) k) kept
-        ∙ answer_above_head limits (ps ++ t ∷ []) k at.h at.reply below
+        ∙ answer_above_head limits (ps ++ t ∷ []) k at.h (Replied at.reply) below
         ∙ ap (λ y. body_answer limits at.reply y (slice_index (ps ++ t ∷ []) k) (k - suc at.h)) (earlier_poll ps t at.h below ∙ at.at_head)
         ∙ ap (λ y. body_answer limits at.reply at.ph y (k - suc at.h)) (last_poll ps t)
         ∙ ap (body_answer limits at.reply at.ph t) place in

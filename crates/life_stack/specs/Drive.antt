@@ -4,7 +4,7 @@ use Rattle.life_script.specs.ScriptView.{ScriptView, ScenarioView}
 use Rattle.life_script.specs.ToldView.{ToldView}
 use Rattle.life_script.specs.Valid.{verdict}
 use Rattle.life_script.specs.declared.error.DriveError.{DriveError}
-use Rattle.life_script.specs.declared.error.DriveError.TheVariants.{ClockBack, NoRequest, NoMemory}
+use Rattle.life_script.specs.declared.error.DriveError.TheVariants.{TooManyHeaders, ClockBack, NoRequest, NoMemory}
 use Rattle.life_script.specs.declared.scenario.Limits.{Limits}
 use Rattle.life_script.specs.declared.scenario.Step.{Step}
 use Rattle.life_stack.specs.Own.{own}
@@ -22,6 +22,7 @@ report_of limits s = record { told = stories limits s.requests 0 s.steps s.end; 
 
 -- a scenario is refused exactly by its verdict; want of memory is no verdict
 abbrev pub IsRefused : ScenarioView → DriveError → Type 0
+IsRefused s (TooManyHeaders i) = verdict s ≡ Err (TooManyHeaders i)
 IsRefused s (ClockBack k) = verdict s ≡ Err (ClockBack k)
 IsRefused s (NoRequest k) = verdict s ≡ Err (NoRequest k)
 IsRefused s NoMemory = Unit {0}

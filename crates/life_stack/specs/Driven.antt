@@ -1,8 +1,7 @@
 -- The driven stack: its calls, where its values stand after some polls, and what their histories are.
 use Rattle.std.specs.Prelude.{◌≡◌, ℕ, Bool, ◌&&◌, nat_le, List, [], length, drop, slice_get, Option, Some, None, Result, ◌-◌, ◌∷◌, ⊤}
-use Rattle.life_core.specs.History.{BodyHistory, Said, Waits, Gives, FutureHistory, Where, Waiting, Answered}
+use Rattle.life_core.specs.History.{BodyHistory, Said, Waits, Gives, Fails, FutureHistory, Where, Waiting, Answered}
 use Rattle.life_core.specs.Meaning.{Answer, Reply}
-use Rattle.life_core.specs.Message.{IsBare}
 use Rattle.life_core.specs.Moment.{Moment}
 use Rattle.life_core.specs.Recorded.{Recorded}
 use Rattle.life_core.specs.declared.body.BodyError.{BodyError}
@@ -29,13 +28,14 @@ use Rattle.life_time.specs.declared.timeout.deadline_service.ResponseBodyDeadlin
 use Rattle.life_time.specs.declared.timeout.deadline_service.ResponseBodyDeadlineFuture.{ResponseBodyDeadlineFuture}
 use Rattle.life_time.specs.declared.timeout.service.ResponseFuture.{ResponseFuture}
 use Rattle.life_time.specs.declared.timeout.service.Timeout.{Timeout}
+use Rattle.life_script.specs.Headers.{Headers}
 use Rattle.life_script.specs.ScriptView.{ScriptView}
 use Rattle.life_script.specs.Views.{ReplyView}
 use Rattle.life_script.specs.declared.scenario.Limits.{Limits}
 use Rattle.life_script.specs.declared.scenario.PollItem.{PollItem}
 use Rattle.life_script.specs.declared.scenario.Then.{Then}
 use Rattle.life_script.specs.declared.scenario.Then.TheVariants as then_
-use Rattle.life_stack.specs.Script.{IsDefaultBody, IsDefaultExt, Finds, ScriptCalls, ScriptFrames, ScriptLeaves, ScriptPolls, item_frame, items_of, polls_of, tells_end}
+use Rattle.life_stack.specs.Script.{IsDefaultBody, IsDefaultExt, IsReplyHead, Finds, ScriptCalls, ScriptFrames, ScriptLeaves, ScriptPolls, item_frame, items_of, polls_of, tells_end}
 use Rattle.life_stack.specs.Story.{due_reply}
 use Rattle.life_stack.specs.declared.ext.Ext.{Ext}
 use Rattle.life_stack.specs.declared.script_service.ScriptBody.{ScriptBody}
@@ -86,21 +86,26 @@ drive_body_leaves = EarlyBodyLeaves (DeadlineBodyLeaves ScriptLeaves) NotesDrop
 abbrev pub drive_ends : DriveBody → Bool
 drive_ends = early_ends (deadline_ends tells_end)
 
+-- what is said of a response's head: its status and its headers
+abbrev pub Head : Type 0
+Head = ℕ × Headers
+
 -- THE SCRIPTED SERVICE: what is not used up.
 
 abbrev pub ScriptStands : ScriptView → ScriptFuture → Where → Type 0
 ScriptStands script f (Waiting past) = polls_of f ≡ drop (length past) script.polls
 ScriptStands script f Answered = ⊤
 
-abbrev pub then_says : Then → Said ℕ ReplyView (List ℕ)
+abbrev pub then_says : Then → Said Head ReplyView (List ℕ)
 then_says then_.Pending = Waits
-then_says (then_.Respond reply) = Gives reply.status reply
+then_says (then_.Fail error) = Fails error
+then_says (then_.Respond reply) = Gives (reply.status, reply.headers) reply
 
-abbrev pub item_says : Option PollItem → Said ℕ ReplyView (List ℕ)
+abbrev pub item_says : Option PollItem → Said Head ReplyView (List ℕ)
 item_says None = Waits
 item_says (Some item) = then_says item.then
 
-abbrev pub script_history : ScriptView → FutureHistory ℕ ReplyView (List ℕ)
+abbrev pub script_history : ScriptView → FutureHistory Head ReplyView (List ℕ)
 script_history script = record {
   says = λ past t. item_says (slice_get script.polls (length past));
   events = λ past t. [];
@@ -121,9 +126,8 @@ script_body_history reply = record {
 
 -- THE STACK: one part for each layer.
 
--- a head of its own: the status, no headers
-abbrev pub Heads : ℕ → ResponseHead Ext → Type 0
-Heads status head = IsBare IsDefaultExt status head
+abbrev pub Heads : Head → ResponseHead Ext → Type 0
+Heads h head = IsReplyHead h.0 h.1 head
 
 -- a stack set for these limits over a service that finds this script for number i
 abbrev pub StackStands : Limits → ScriptView → ℕ → DriveStack → Type 0
@@ -134,24 +138,24 @@ abbrev pub FutureStands : Limits → ScriptView → ℕ → DriveFuture → Wher
 FutureStands limits script t0 =
     DropStands (noting drop_kind.Future t0) t0 (DeadlineStands limits.body_deadline (TimeoutStands (record { start = t0; length = limits.timeout }) limits.timeout_status (ScriptStands script)))
 
-abbrev pub future_history : Limits → ScriptView → ℕ → FutureHistory ℕ (ℕ × (ℕ × ReplyView)) (List ℕ)
+-- the plan of a driven body: its response's head and time, and the reply
+abbrev pub Plan : Type 0
+Plan = Head × (ℕ × ReplyView)
+
+abbrev pub future_history : Limits → ScriptView → ℕ → FutureHistory Head Plan (List ℕ)
 future_history limits script t0 =
     drop_history (λ t. drop_record drop_kind.Future (t - t0) ∷ [])
-    (deadline_history (timeout_history (record { start = t0; length = limits.timeout }) limits.timeout_status (due_reply limits) (script_history script)))
+    (deadline_history (timeout_history (record { start = t0; length = limits.timeout }) (limits.timeout_status, []) (due_reply limits) (script_history script)))
 
 -- a body whose response was given at the time, with the reply
 abbrev pub timed_body_history : Limits → ℕ × ReplyView → BodyHistory (List ℕ) (BodyError (List ℕ))
 timed_body_history limits = deadline_body_history limits.body_deadline script_body_history
 
--- the plan of a driven body: its status, the time of its response, and the reply
-abbrev pub Plan : Type 0
-Plan = ℕ × (ℕ × ReplyView)
-
 abbrev pub plan : ReplyView → ℕ → Plan
-plan reply ph = (reply.status, (ph, reply))
+plan reply ph = ((reply.status, reply.headers), (ph, reply))
 
 abbrev pub BodyStands : Limits → ℕ → Plan → DriveBody → List ℕ → Type 0
-BodyStands limits t0 = DropBodyStands (λ status. noting (drop_kind.Body status) t0) (timed_body_history limits) (DeadlineBodyStands limits.body_deadline ScriptBodyStands)
+BodyStands limits t0 = DropBodyStands (λ (h : Head). noting (drop_kind.Body h.0) t0) (timed_body_history limits) (DeadlineBodyStands limits.body_deadline ScriptBodyStands)
 
 abbrev pub body_history : Limits → ℕ → Plan → BodyHistory (List ℕ) (BodyError (List ℕ))
-body_history limits t0 = drop_body_history (λ status q. drop_record (drop_kind.Body status) (q - t0) ∷ []) (timed_body_history limits)
+body_history limits t0 = drop_body_history (λ (h : Head) q. drop_record (drop_kind.Body h.0) (q - t0) ∷ []) (timed_body_history limits)

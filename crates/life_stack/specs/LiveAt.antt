@@ -22,7 +22,7 @@ abbrev pub LiveAt : Limits → ScriptView → List Own → Live → Type 0
 LiveAt limits script acts live.Fresh = FreshAt limits script acts
 LiveAt limits script acts (live.Future f) = FutureAt limits script acts f
 LiveAt limits script acts (live.Body b) = BodyAt limits script acts b
-LiveAt limits script acts live.Over = OverAt acts
+LiveAt limits script acts live.Over = OverAt limits script acts
 
 -- there is room for the record of an early drop, where something is live
 abbrev pub HasRoom : Live → ℕ → Type 0

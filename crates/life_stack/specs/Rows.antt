@@ -2,7 +2,9 @@
 use Rattle.std.specs.Prelude.{◌≡◌, refl, List, [], ◌∷◌, false, true}
 use Rattle.life_core.specs.declared.event.Event.{Event}
 use Rattle.life_core.specs.declared.event.Event.TheVariants as event
+use Rattle.life_core.specs.declared.body.BodyError.TheVariants.{Inner}
 use Rattle.life_core.specs.declared.event.DropKind.TheVariants as drop_kind
+use Rattle.life_core.specs.declared.fields.Shown.TheVariants.{Plain}
 use Rattle.life_core.specs.declared.latency.LatencyUnit.TheVariants.{Nanos}
 use Rattle.life_script.specs.ScriptView.{ScriptView}
 use Rattle.life_script.specs.ToldView.{TurnView}
@@ -21,15 +23,15 @@ limits = record { timeout = 10; timeout_status = 408; body_deadline = 20 }
 
 -- a script that answers status 200 at its first poll
 abbrev ready : List BodyItem → ScriptView
-ready items = record { polls = record { then = then_.Respond (record { status = 200; body = items; tells = true }) } ∷ [] }
+ready items = record { headers = []; polls = record { then = then_.Respond (record { status = 200; headers = []; body = items; tells = true }) } ∷ [] }
 
 -- a script that never answers
 abbrev silent : ScriptView
-silent = record { polls = [] }
+silent = record { headers = []; polls = [] }
 
 -- a script that answers status 201, with a body that waits and does not tell its end
 abbrev waiting : ScriptView
-waiting = record { polls = record { then = then_.Respond (record { status = 201; body = body_item.Pending ∷ []; tells = false }) } ∷ [] }
+waiting = record { headers = []; polls = record { then = then_.Respond (record { status = 201; headers = []; body = body_item.Pending ∷ []; tells = false }) } ∷ [] }
 
 -- a turn in which nothing is recorded
 abbrev quiet : Answer → TurnView
@@ -41,13 +43,13 @@ telling a es = record { answer = a; events = es }
 
 read_to_its_end : story limits (ready (body_item.Chunk (104 ∷ 105 ∷ []) ∷ [])) ((0, act.Call) ∷ (3, act.Poll) ∷ (4, act.Poll) ∷ (5, act.Drop) ∷ []) 5
     ≡ record {
-      turns = quiet ans.Called ∷ quiet (ans.Response 200 false) ∷ quiet (ans.Frame (seen.Chunk (104 ∷ 105 ∷ [])) true) ∷ quiet ans.Dropped ∷ [];
+      turns = quiet ans.Called ∷ quiet (ans.Response 200 [] false) ∷ quiet (ans.Frame (seen.Chunk (104 ∷ 105 ∷ [])) true) ∷ quiet ans.Dropped ∷ [];
       at_end = [];
     }
 read_to_its_end = refl
 
 timed_out : story limits (ready []) ((0, act.Call) ∷ (10, act.Poll) ∷ []) 10
-    ≡ record { turns = quiet ans.Called ∷ quiet (ans.Response 408 true) ∷ []; at_end = [] }
+    ≡ record { turns = quiet ans.Called ∷ quiet (ans.Response 408 [] true) ∷ []; at_end = [] }
 timed_out = refl
 
 never_answered : story limits silent ((7, act.Call) ∷ []) 9
@@ -59,8 +61,32 @@ never_answered = refl
 
 dropped_while_it_waits : story limits waiting ((0, act.Call) ∷ (1, act.Poll) ∷ (6, act.Drop) ∷ []) 6
     ≡ record {
-      turns = quiet ans.Called ∷ quiet (ans.Response 201 false)
+      turns = quiet ans.Called ∷ quiet (ans.Response 201 [] false)
           ∷ telling ans.Dropped (event.Dropped (drop_kind.Body 201) (record { unit = Nanos; nanos = 6 }) ∷ []) ∷ [];
       at_end = [];
     }
 dropped_while_it_waits = refl
+
+-- a script that fails at its first poll
+abbrev failing : ScriptView
+failing = record { headers = []; polls = record { then = then_.Fail (98 ∷ []) } ∷ [] }
+
+failed : story limits failing ((0, act.Call) ∷ (1, act.Poll) ∷ (2, act.Drop) ∷ []) 2
+    ≡ record { turns = quiet ans.Called ∷ quiet (ans.ServiceError (98 ∷ [])) ∷ quiet ans.Idle ∷ []; at_end = [] }
+failed = refl
+
+-- a script that answers with a header at its first poll, and a body of a fault
+abbrev faulty : ScriptView
+faulty = record {
+  headers = [];
+  polls = record {
+    then = then_.Respond (record { status = 200; headers = (97 ∷ [], record { bytes = 49 ∷ []; is_sensitive = false }) ∷ []; body = body_item.Fault (98 ∷ []) ∷ []; tells = false });
+  } ∷ [];
+}
+
+faults_once : story limits faulty ((0, act.Call) ∷ (1, act.Poll) ∷ (2, act.Poll) ∷ (3, act.Poll) ∷ (4, act.Drop) ∷ []) 4
+    ≡ record {
+      turns = quiet ans.Called ∷ quiet (ans.Response 200 ((97 ∷ [], Plain (49 ∷ []) ∷ []) ∷ []) false) ∷ quiet (ans.Fault (Inner (98 ∷ []))) ∷ quiet ans.End ∷ quiet ans.Dropped ∷ [];
+      at_end = [];
+    }
+faults_once = refl

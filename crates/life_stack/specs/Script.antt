@@ -1,17 +1,21 @@
 -- What the scripted service, its future and its body do: the items of their lists in order.
-use Rattle.std.specs.Prelude.{◌≡◌, ℕ, Bool, true, ◌&&◌, nat_le, List, [], length, drop, slice_get, Option, Some, None, Result, Ok, Err, IfOk}
+use Rattle.std.specs.Prelude.{◌≡◌, ℕ, codes, Bool, true, ◌&&◌, nat_le, List, [], length, drop, slice_get, Option, Some, None, Result, Ok, Err, IfOk}
 use Rattle.std.specs.Option.{option_map_or}
-use Rattle.http_body.specs.Frame.{data_frame}
+use Rattle.http.specs.declared.version.TheConstants.Version.{HTTP_11}
+use Rattle.http.specs.Request.{IsHeadFor}
+use Rattle.http_uri.specs.Uri.{HasParts}
+use Rattle.http_body.specs.Frame.{data_frame, trailers_frame}
 use Rattle.http_body.specs.declared.frame.Frame.{Frame}
 use Rattle.life_core.specs.Meaning.{Answer, Reply}
-use Rattle.life_core.specs.Message.{IsBare}
 use Rattle.life_core.specs.Moment.{Moment}
 use Rattle.life_core.specs.Recorded.{Recorded}
 use Rattle.life_core.specs.declared.message.Request.{Request}
 use Rattle.life_core.specs.declared.message.Response.{Response}
+use Rattle.life_core.specs.declared.message.ResponseHead.{ResponseHead}
 use Rattle.life_core.specs.declared.poll.Poll.{Poll}
 use Rattle.life_core.specs.declared.poll.Poll.TheVariants.{Ready, Pending}
 use Rattle.life_core.specs.declared.recorder.NoMemory.{NoMemory}
+use Rattle.life_script.specs.Headers.{Headers, map_of}
 use Rattle.life_script.specs.ScriptView.{ScriptView}
 use Rattle.life_script.specs.Views.{ReplyView}
 use Rattle.life_script.specs.declared.scenario.BodyItem.{BodyItem}
@@ -55,6 +59,8 @@ abbrev pub item_frame : Option BodyItem → Poll (Option (Result (Frame (List �
 item_frame None = Ready None
 item_frame (Some body_item.Pending) = Pending
 item_frame (Some (body_item.Chunk bytes)) = Ready (Some (Ok (data_frame bytes)))
+item_frame (Some (body_item.Trailers trailers)) = Ready (Some (Ok (trailers_frame (map_of trailers))))
+item_frame (Some (body_item.Fault fault)) = Ready (Some (Err fault))
 
 -- the next item is answered; nothing is recorded
 pub record NextItem (old : ScriptBody) (a : Poll (Option (Result (Frame (List ℕ)) (List ℕ)))) (new : ScriptBody) : Type 0 where
@@ -69,14 +75,22 @@ ScriptFrames old was m (Err e) new now = now ≡ was
 abbrev pub ScriptLeaves : {S : Type 0} → S → Recorded → Moment → Result Unit NoMemory → Recorded → Type 0
 ScriptLeaves old was m answer now = (answer ≡ Ok tt) × (now ≡ was)
 
--- the scripted response: its status, no headers, and its body
+-- the head of a scripted response: its status and its headers
+pub record IsReplyHead (status : ℕ) (headers : Headers) (head : ResponseHead Ext) : Type 0 where
+  pub status_is : head.parts.status ≡ status
+  pub version_is : head.parts.version ≡ HTTP_11
+  pub headers_are : head.parts.headers ≡ map_of headers
+  pub ext_is : IsDefaultExt head.ext
+
+-- the scripted response: its head and its body
 pub record IsReply (reply : ReplyView) (r : Response ScriptBody Ext) : Type 0 where
-  pub head : IsBare IsDefaultExt reply.status r.head
+  pub head : IsReplyHead reply.status reply.headers r.head
   pub body : IsBodyOf reply r.body
 
 -- the answer to what an item says
 abbrev pub Answers : Then → Poll (Result (Response ScriptBody Ext) (List ℕ)) → Type 0
 Answers then_.Pending a = a ≡ Pending
+Answers (then_.Fail error) a = a ≡ Ready (Err error)
 Answers (then_.Respond reply) (Ready (Ok r)) = IsReply reply r
 Answers (then_.Respond reply) (Ready (Err e)) = ⊥
 Answers (then_.Respond reply) Pending = ⊥
@@ -104,6 +118,13 @@ Finds script i s = slice_get s.scripts.value.items i ≡ Some script
 -- a request of number i
 abbrev pub IsNumbered : {B : Type 0} → ℕ → Request B Ext → Type 0
 IsNumbered i r = r.head.ext.number ≡ Some i
+
+-- the request of a script and its number: GET /, HTTP/1.1, with the script's headers and a body without items
+pub record IsRequestOf (script : ScriptView) (i : ℕ) (r : Request ScriptBody Ext) : Type 0 where
+  pub head : IsHeadFor (codes "GET") (λ uri. HasParts uri None None (codes "/")) (record r.head.parts { headers = [] })
+  pub headers_are : r.head.parts.headers ≡ map_of script.headers
+  pub numbered : IsNumbered i r
+  pub body : IsDefaultBody r.body
 
 -- the poll items of the script of a number, none where there is no such script
 abbrev pub polls_for : List ScriptView → Option ℕ → List PollItem

@@ -1,7 +1,10 @@
 -- Where a live value of a request stands after some of its acts, and what each call of it gives, by the table.
-use Rattle.std.specs.Prelude.{◌≡◌, ℕ, suc, List, [], ◌∷◌, ◌++◌, ◌+◌, length, drop, reverse, slice_index, Bool, false, Option, Some, None, Result, Ok, Err}
-use Rattle.http_body.specs.Frame.{data_frame}
+use Rattle.std.specs.Prelude.{◌≡◌, ℕ, suc, List, [], ◌∷◌, ◌++◌, ◌+◌, length, drop, reverse, slice_index, Bool, false, ◌⊎◌, Option, Some, None, Result, Ok, Err}
+use Rattle.http_body.specs.Frame.{data_frame, trailers_frame}
 use Rattle.http_body.specs.declared.frame.Frame.{Frame}
+use Rattle.http_header.specs.FieldValue.{FieldValue}
+use Rattle.http_header.specs.HeaderMap.{Entries}
+use Rattle.life_core.specs.Fields.{fields}
 use Rattle.life_core.specs.History.{Grew, Latest, Waiting, Answered}
 use Rattle.life_core.specs.Recorded.{Recorded}
 use Rattle.life_core.specs.declared.body.BodyError.{BodyError}
@@ -14,13 +17,14 @@ use Rattle.life_script.specs.ScriptView.{ScriptView}
 use Rattle.life_script.specs.Views.{ReplyView}
 use Rattle.life_script.specs.declared.answer.Answer.{Answer}
 use Rattle.life_script.specs.declared.answer.Answer.TheVariants as ans
+use Rattle.life_script.specs.declared.answer.Seen.{Seen}
 use Rattle.life_script.specs.declared.answer.Seen.TheVariants as seen
 use Rattle.life_script.specs.declared.scenario.Act.TheVariants as act
 use Rattle.life_script.specs.declared.scenario.Limits.{Limits}
 use Rattle.life_stack.specs.Driven.{DriveFuture, DriveBody, FutureStands, BodyStands, plan, timed_body_history, drive_ends}
 use Rattle.life_stack.specs.Own.{Own, NotBefore, called_at, dropped_at, polls}
 use Rattle.life_stack.specs.declared.ext.Ext.{Ext}
-use Rattle.life_stack.specs.Story.{answer, answers, any_ending, drops, events_of, head, kind_of}
+use Rattle.life_stack.specs.Story.{answer, answers, any_ending, drops, events_of, Failed, Replied, head, kind_of}
 
 -- no Call yet; what these acts answered ends nothing
 pub record FreshAt (limits : Limits) (script : ScriptView) (acts : List Own) : Type 0 where
@@ -56,7 +60,7 @@ pub record BodyAt (limits : Limits) (script : ScriptView) (acts : List Own) (b :
   pub past : List ℕ
   pub called : called_at acts ≡ Some t0
   pub undropped : dropped_at acts ≡ None
-  pub head_is : head limits script t0 (polls acts) ≡ Some (h, reply)
+  pub head_is : head limits script t0 (polls acts) ≡ Some (h, Replied reply)
   pub at_head : slice_index (polls acts) h ≡ ph
   pub past_is : past ≡ reverse (drop (suc h) (polls acts))
   pub polled : length (polls acts) ≡ suc (h + length past)
@@ -65,24 +69,29 @@ pub record BodyAt (limits : Limits) (script : ScriptView) (acts : List Own) (b :
   pub ending : any_ending (answers limits script acts) ≡ ended (timed_body_history limits (ph, reply)) past
   pub stands : BodyStands limits t0 (plan reply ph) b past
 
--- all was given up
-pub record OverAt (acts : List Own) : Type 0 where
+-- it was dropped, or a poll answered an error
+abbrev pub IsGone : Limits → ScriptView → ℕ → List Own → Type 0
+IsGone limits script t0 acts =
+    ((d : ℕ) × (dropped_at acts ≡ Some d))
+    ⊎ ((h : ℕ) × (error : List ℕ) × (dropped_at acts ≡ None) × (head limits script t0 (polls acts) ≡ Some (h, Failed error)))
+
+-- nothing is live after a call
+pub record OverAt (limits : Limits) (script : ScriptView) (acts : List Own) : Type 0 where
   pub t0 : ℕ
-  pub d : ℕ
   pub called : called_at acts ≡ Some t0
-  pub dropped : dropped_at acts ≡ Some d
+  pub gone : IsGone limits script t0 acts
 
 -- what the answer of a future says: the response's status, and whether its body tells its end
 abbrev pub FutureSaid : Poll (Result (Response DriveBody Ext) (List ℕ)) → Answer → Type 0
 FutureSaid Pending a = a ≡ ans.Pending
-FutureSaid (Ready (Ok r)) a = a ≡ ans.Response r.head.parts.status (drive_ends r.body)
+FutureSaid (Ready (Ok r)) a = a ≡ ans.Response r.head.parts.status (fields r.head.parts.headers) (drive_ends r.body)
 FutureSaid (Ready (Err e)) a = a ≡ ans.ServiceError e
 
--- what is live after a poll of a future; the scripted service never fails
+-- what is live after a poll of a future
 abbrev pub FutureLeft : Limits → ScriptView → List Own → Poll (Result (Response DriveBody Ext) (List ℕ)) → DriveFuture → Type 0
 FutureLeft limits script acts Pending new = FutureAt limits script acts new
 FutureLeft limits script acts (Ready (Ok r)) new = FutureAnswered limits script acts new × BodyAt limits script acts r.body
-FutureLeft limits script acts (Ready (Err e)) new = ⊥
+FutureLeft limits script acts (Ready (Err e)) new = FutureAnswered limits script acts new × OverAt limits script acts
 
 -- a poll at time t gives the table's answer and events, and what is live stands at the longer list
 pub record FuturePolled (limits : Limits) (script : ScriptView) (acts : List Own) (t : ℕ) (was : Recorded)
@@ -91,11 +100,16 @@ pub record FuturePolled (limits : Limits) (script : ScriptView) (acts : List Own
   pub left : FutureLeft limits script (acts ++ (t, act.Poll) ∷ []) a new
   pub grew : Grew was now (events_of (answer limits script acts (t, act.Poll)) (drops limits script (acts ++ (t, act.Poll) ∷ []) t))
 
+-- what is seen of a frame
+abbrev pub Shows : Seen → Frame (List ℕ) → Type 0
+Shows (seen.Chunk bytes) f = f ≡ data_frame bytes
+Shows (seen.Trailers shown) f = (map : Entries FieldValue) × (f ≡ trailers_frame map) × (shown ≡ fields map)
+
 -- what the answer of a body says, where the body then tells this of its end
 abbrev pub BodySaid : Poll (Option (Result (Frame (List ℕ)) (BodyError (List ℕ)))) → Bool → Answer → Type 0
 BodySaid Pending ended a = a ≡ ans.Pending
 BodySaid (Ready None) ended a = a ≡ ans.End
-BodySaid (Ready (Some (Ok f))) ended a = (bytes : List ℕ) × (f ≡ data_frame bytes) × (a ≡ ans.Frame (seen.Chunk bytes) ended)
+BodySaid (Ready (Some (Ok f))) ended a = (s : Seen) × Shows s f × (a ≡ ans.Frame s ended)
 BodySaid (Ready (Some (Err e))) ended a = a ≡ ans.Fault e
 
 pub record BodyPolled (limits : Limits) (script : ScriptView) (acts : List Own) (t : ℕ) (was : Recorded)

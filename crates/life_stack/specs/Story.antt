@@ -6,7 +6,11 @@ use Rattle.life_core.specs.declared.event.Event.TheVariants as event
 use Rattle.life_core.specs.declared.event.DropKind.{DropKind}
 use Rattle.life_core.specs.declared.event.DropKind.TheVariants as drop_kind
 use Rattle.life_core.specs.declared.latency.LatencyUnit.TheVariants.{Nanos}
-use Rattle.life_core.specs.declared.body.BodyError.TheVariants.{Elapsed}
+use Rattle.http_header.specs.HeaderMap.{Entries}
+use Rattle.life_core.specs.Fields.{fields}
+use Rattle.life_core.specs.declared.body.BodyError.TheVariants.{Elapsed, Inner}
+use Rattle.life_core.specs.declared.fields.Shown.{Shown}
+use Rattle.life_script.specs.Headers.{Headers, map_of}
 use Rattle.life_script.specs.ScriptView.{ScriptView}
 use Rattle.life_script.specs.ToldView.{TurnView, ToldView}
 use Rattle.life_script.specs.Views.{ReplyView}
@@ -22,7 +26,7 @@ use Rattle.life_script.specs.declared.scenario.Then.{Then}
 use Rattle.life_script.specs.declared.scenario.Then.TheVariants as then_
 use Rattle.life_stack.specs.Own.{Own, called_at, polls, dropped_at}
 
--- THE HEAD: the first poll that answers otherwise than Pending, and its reply.
+-- THE HEAD: the first poll that answers otherwise than Pending, and what it gives.
 
 -- the least index of a poll at which the timer is due
 abbrev pub next : Option ℕ → Option ℕ
@@ -33,40 +37,46 @@ abbrev pub first_due : ℕ → ℕ → List ℕ → Option ℕ
 first_due start length [] = None
 first_due start length (p ∷ ps) = if due start length p then Some 0 else next (first_due start length ps)
 
--- the least index of a poll item that responds, with its reply
-abbrev pub later : Option (ℕ × ReplyView) → Option (ℕ × ReplyView)
+-- what a poll that answers gives: a response by a reply, or a service error
+pub data Outcome : Type 0 where
+  Replied : ReplyView → Outcome
+  Failed : List ℕ → Outcome
+
+-- the least index of a poll item that responds or fails, with what it gives
+abbrev pub later : Option (ℕ × Outcome) → Option (ℕ × Outcome)
 later None = None
-later (Some (r, reply)) = Some (suc r, reply)
+later (Some (r, o)) = Some (suc r, o)
 
-abbrev pub reply_in : Then → Option ReplyView
-reply_in then_.Pending = None
-reply_in (then_.Respond reply) = Some reply
+abbrev pub outcome_in : Then → Option Outcome
+outcome_in then_.Pending = None
+outcome_in (then_.Fail error) = Some (Failed error)
+outcome_in (then_.Respond reply) = Some (Replied reply)
 
-abbrev pub here_or_later : Option ReplyView → Option (ℕ × ReplyView) → Option (ℕ × ReplyView)
-here_or_later (Some reply) rest = Some (0, reply)
+abbrev pub here_or_later : Option Outcome → Option (ℕ × Outcome) → Option (ℕ × Outcome)
+here_or_later (Some o) rest = Some (0, o)
 here_or_later None rest = later rest
 
-abbrev pub first_reply : List PollItem → Option (ℕ × ReplyView)
-first_reply [] = None
-first_reply (item ∷ items) = here_or_later (reply_in item.then) (first_reply items)
+abbrev pub first_outcome : List PollItem → Option (ℕ × Outcome)
+first_outcome [] = None
+first_outcome (item ∷ items) = here_or_later (outcome_in item.then) (first_outcome items)
 
 -- the lesser of the two; the due case wins a tie
-abbrev pub earlier : Option ℕ → Option (ℕ × ReplyView) → ReplyView → Option (ℕ × ReplyView)
+abbrev pub earlier : Option ℕ → Option (ℕ × Outcome) → Outcome → Option (ℕ × Outcome)
 earlier None ready late = ready
 earlier (Some u) None late = Some (u, late)
-earlier (Some u) (Some (r, reply)) late = if nat_le u r then Some (u, late) else Some (r, reply)
+earlier (Some u) (Some (r, o)) late = if nat_le u r then Some (u, late) else Some (r, o)
 
 -- it counts only where there is such a poll
-abbrev pub counted : ℕ → Option (ℕ × ReplyView) → Option (ℕ × ReplyView)
+abbrev pub counted : ℕ → Option (ℕ × Outcome) → Option (ℕ × Outcome)
 counted n None = None
-counted n (Some (k, reply)) = if nat_lt k n then Some (k, reply) else None
+counted n (Some (k, o)) = if nat_lt k n then Some (k, o) else None
 
--- what a due poll answers: the timeout's status, and a body without items that tells its end
+-- what a due poll answers: the timeout's status, no headers, and a body without items that tells its end
 abbrev pub due_reply : Limits → ReplyView
-due_reply limits = record { status = limits.timeout_status; body = []; tells = true }
+due_reply limits = record { status = limits.timeout_status; headers = []; body = []; tells = true }
 
-abbrev pub head : Limits → ScriptView → ℕ → List ℕ → Option (ℕ × ReplyView)
-head limits script t0 ps = counted (length ps) (earlier (first_due t0 limits.timeout ps) (first_reply script.polls) (due_reply limits))
+abbrev pub head : Limits → ScriptView → ℕ → List ℕ → Option (ℕ × Outcome)
+head limits script t0 ps = counted (length ps) (earlier (first_due t0 limits.timeout ps) (first_outcome script.polls) (Replied (due_reply limits)))
 
 -- THE BODY of a reply.
 
@@ -74,10 +84,16 @@ head limits script t0 ps = counted (length ps) (earlier (first_due t0 limits.tim
 abbrev pub tells_after : ReplyView → ℕ → Bool
 tells_after reply m = reply.tells && nat_le (length reply.body) m
 
+-- header fields as they are shown: each name once with its values in order, sorted by name
+abbrev pub shown_headers : Headers → Entries Shown
+shown_headers headers = fields (map_of headers)
+
 -- what item k answers, or none
 abbrev pub item_answer : ReplyView → ℕ → Option BodyItem → Answer
 item_answer reply k None = ans.End
 item_answer reply k (Some body_item.Pending) = ans.Pending
+item_answer reply k (Some (body_item.Trailers trailers)) = ans.Frame (seen.Trailers (shown_headers trailers)) (tells_after reply (suc k))
+item_answer reply k (Some (body_item.Fault fault)) = ans.Fault (Inner fault)
 item_answer reply k (Some (body_item.Chunk bytes)) = ans.Frame (seen.Chunk bytes) (tells_after reply (suc k))
 
 -- the k-th poll of the body, at time q; the response was given at ph
@@ -87,12 +103,22 @@ body_answer limits reply ph q k = if due ph limits.body_deadline q then ans.Faul
 -- THE ANSWER of each act.
 
 -- poll k, where there is no head, or by its index
-abbrev pub by_head : Limits → List ℕ → ℕ → Option (ℕ × ReplyView) → Answer
+-- the answer at the head
+abbrev pub head_answer : Outcome → Answer
+head_answer (Replied reply) = ans.Response reply.status (shown_headers reply.headers) (tells_after reply 0)
+head_answer (Failed error) = ans.ServiceError error
+
+-- the answer of a poll at q, the k-th after the head, which was at ph; after a service error nothing is live
+abbrev pub later_answer : Limits → Outcome → ℕ → ℕ → ℕ → Answer
+later_answer limits (Replied reply) ph q k = body_answer limits reply ph q k
+later_answer limits (Failed error) ph q k = ans.Idle
+
+abbrev pub by_head : Limits → List ℕ → ℕ → Option (ℕ × Outcome) → Answer
 by_head limits ps k None = ans.Pending
-by_head limits ps k (Some (h, reply)) =
+by_head limits ps k (Some (h, o)) =
     if nat_lt k h then ans.Pending
-    else (if k == h then ans.Response reply.status (tells_after reply 0)
-    else body_answer limits reply (slice_index ps h) (slice_index ps k) (k - suc h))
+    else (if k == h then head_answer o
+    else later_answer limits o (slice_index ps h) (slice_index ps k) (k - suc h))
 
 abbrev pub poll_answer : Limits → ScriptView → ℕ → List ℕ → ℕ → Answer
 poll_answer limits script t0 ps k = by_head limits ps k (head limits script t0 ps)
@@ -107,16 +133,22 @@ on_poll limits script None d ps k = ans.Idle
 on_poll limits script (Some t0) (Some d) ps k = ans.Idle
 on_poll limits script (Some t0) None ps k = poll_answer limits script t0 ps k
 
-abbrev pub on_drop : Option ℕ → Option ℕ → Answer
-on_drop None d = ans.Idle
-on_drop (Some t0) (Some d) = ans.Idle
-on_drop (Some t0) None = ans.Dropped
+-- what a Drop does, by the head so far
+abbrev pub drop_answer : Option (ℕ × Outcome) → Answer
+drop_answer None = ans.Dropped
+drop_answer (Some (h, Replied reply)) = ans.Dropped
+drop_answer (Some (h, Failed error)) = ans.Idle
+
+abbrev pub on_drop : Limits → ScriptView → Option ℕ → Option ℕ → List ℕ → Answer
+on_drop limits script None d ps = ans.Idle
+on_drop limits script (Some t0) (Some d) ps = ans.Idle
+on_drop limits script (Some t0) None ps = drop_answer (head limits script t0 ps)
 
 -- the answer to an act depends on the acts up to it alone
 abbrev pub answer : Limits → ScriptView → List Own → Own → Answer
 answer limits script before (t, act.Call) = on_call (called_at before)
 answer limits script before (t, act.Poll) = on_poll limits script (called_at before) (dropped_at before) (polls before ++ t ∷ []) (length (polls before))
-answer limits script before (t, act.Drop) = on_drop (called_at before) (dropped_at before)
+answer limits script before (t, act.Drop) = on_drop limits script (called_at before) (dropped_at before) (polls before)
 
 abbrev pub answers_after : Limits → ScriptView → List Own → List Own → List Answer
 answers_after limits script before [] = []
@@ -132,7 +164,7 @@ abbrev pub is_ending : Answer → Bool
 is_ending ans.Called = false
 is_ending ans.Idle = false
 is_ending ans.Pending = false
-is_ending (ans.Response status ended) = ended
+is_ending (ans.Response status headers ended) = ended
 is_ending (ans.ServiceError error) = true
 is_ending (ans.Frame frame ended) = ended
 is_ending ans.End = true
@@ -148,7 +180,7 @@ abbrev pub kind_after : DropKind → Answer → DropKind
 kind_after what ans.Called = what
 kind_after what ans.Idle = what
 kind_after what ans.Pending = what
-kind_after what (ans.Response status ended) = drop_kind.Body status
+kind_after what (ans.Response status headers ended) = drop_kind.Body status
 kind_after what (ans.ServiceError error) = what
 kind_after what (ans.Frame frame ended) = what
 kind_after what ans.End = what
@@ -174,7 +206,7 @@ abbrev pub events_of : Answer → List Event → List Event
 events_of ans.Called es = []
 events_of ans.Idle es = []
 events_of ans.Pending es = []
-events_of (ans.Response status ended) es = []
+events_of (ans.Response status headers ended) es = []
 events_of (ans.ServiceError error) es = []
 events_of (ans.Frame frame ended) es = []
 events_of ans.End es = []

@@ -25,12 +25,12 @@ fn line(alloc: Global, status: Status, text: &str) -> Got<Due>
     Ok(Due { status, text })
 }
 
-/// The line of a refusal at the step of a number. The one error is want of memory.
-fn refusal(alloc: Global, why: &str, step: u64) -> Got<Due>
+/// The line of a refusal, with the number of what is refused. The one error is want of memory.
+fn refusal(alloc: Global, why: &str, number: u64) -> Got<Due>
     ensures { IfOk result (λ due. (due.status ≡ Status.Refused)
-        × (due.text ≡ codes "refused: " ++ (why.now ++ (codes " at step " ++ (decimal step ++ codes "\n"))))) }
+        × (due.text ≡ codes "refused: " ++ (why.now ++ (codes " " ++ (decimal number ++ codes "\n"))))) }
 {
-    let text = format!(in alloc; "refused: {why} at step {step}\n")?;
+    let text = format!(in alloc; "refused: {why} {number}\n")?;
     line(alloc, Status::Refused, text.as_str())
 }
 
@@ -47,8 +47,11 @@ fn due_of(alloc: Global, limits: &Limits, scenario: &Scenario) -> Got<Due>
                 text,
             })
         }
-        Err(DriveError::ClockBack(step)) => refusal(alloc, "clock back", step),
-        Err(DriveError::NoRequest(step)) => refusal(alloc, "no request", step),
+        Err(DriveError::TooManyHeaders(request)) => {
+            refusal(alloc, "too many headers in request", request)
+        }
+        Err(DriveError::ClockBack(step)) => refusal(alloc, "clock back at step", step),
+        Err(DriveError::NoRequest(step)) => refusal(alloc, "no request at step", step),
         Err(DriveError::NoMemory) => Err(NoMemory),
     }
 }

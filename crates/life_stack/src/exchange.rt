@@ -11,7 +11,7 @@ ghost use Rattle.life_stack.specs.Story.{story};
 use crate::live::{Live, act_on, finish};
 use crate::stack::DriveStack;
 use life_core::{Cx, Got, Log, NoMemory, Recorder};
-use life_script::{Act, Answer, Step, Told, Turn, Turns};
+use life_script::{Act, Answer, Script, Step, Told, Turn, Turns};
 use std::alloc::Global;
 
 /// What is live of a request, the log of its current step, and its turns so far.
@@ -49,6 +49,7 @@ pub(crate) fn idle_exchange(alloc: Global) -> Exchange
 /// One act at its time.
 fn act_at(
     stack: &mut DriveStack,
+    script: &Script,
     step: Step,
     live: Live,
     alloc: Global,
@@ -71,7 +72,7 @@ fn act_at(
         alloc,
         rec: log,
     };
-    act_on(stack, step.request, live, step.act, &mut cx)
+    act_on(stack, script, step.request, live, step.act, &mut cx)
 }
 
 /// Gives up what is live at a time.
@@ -121,6 +122,7 @@ pub(crate) fn leave(exchange: Exchange, at: u64, alloc: Global)
 /// refused.
 pub(crate) fn take_turn(
     stack: &mut DriveStack,
+    script: &Script,
     exchange: Exchange,
     step: Step,
     alloc: Global,
@@ -141,7 +143,7 @@ pub(crate) fn take_turn(
         mut log,
         mut turns,
     } = exchange;
-    let (live, answer) = act_at(stack, step, live, alloc, &mut log)?;
+    let (live, answer) = act_at(stack, script, step, live, alloc, &mut log)?;
     let events = log.take();
     turns.put_back(Turn { answer, events });
     match make_room(&live, &mut log) {

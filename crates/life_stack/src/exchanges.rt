@@ -13,7 +13,7 @@ use crate::exchange::{Exchange, begin_exchange, idle_exchange, leave, take_turn,
 use crate::live::Live;
 use crate::stack::DriveStack;
 use life_core::{Got, NoMemory};
-use life_script::{Step, ToldList};
+use life_script::{Script, Step, ToldList};
 use std::alloc::{AllocFailed, Global};
 use std::mem;
 
@@ -85,6 +85,7 @@ fn put(exchanges: &mut Vec<Exchange>, i: usize, exchange: Exchange)
 /// was given up; a Drop is not refused.
 pub(crate) fn run_step(
     stack: &mut DriveStack,
+    scripts: &[Script],
     exchanges: &mut Vec<Exchange>,
     step: Step,
     alloc: Global,
@@ -92,6 +93,7 @@ pub(crate) fn run_step(
     requires may { All (λ e. MayGoOn e.live) exchanges.old.items }
     requires may_stack { StackMay stack.old }
     requires within { step.request < length exchanges.old.items }
+    requires scripted { length exchanges.old.items ≡ length scripts.now }
     requires room { (e : _) → slice_get exchanges.old.items step.request ≡ Some e → 1 ≤ e.turns.spare }
     ensures may { All (λ e. MayGoOn e.live) exchanges.new.items }
     ensures may_stack { StackMay stack.new }
@@ -100,7 +102,7 @@ pub(crate) fn run_step(
 {
     let i = step.request as usize;
     let exchange = mem::replace(&mut exchanges[i], idle_exchange(alloc));
-    match take_turn(stack, exchange, step, alloc) {
+    match take_turn(stack, &scripts[i], exchange, step, alloc) {
         Ok(exchange) => {
             put(exchanges, i, exchange);
             Ok(())

@@ -1,25 +1,28 @@
 //! What is live of a request, and what one act does with it.
 ghost use Rattle.std.specs.Prelude.{◌≡◌, ◌≤◌, ◌++◌, ℕ, List, Ok, IfOk, IsErr, IsOk};
-ghost use Rattle.http_body.specs.Frame.{data_frame};
+ghost use Rattle.life_core.specs.Fields.{fields};
 ghost use Rattle.life_core.specs.Moment.{SameContext};
+ghost use Rattle.life_script.specs.declared.answer.Seen.{Seen as SeenView};
 ghost use Rattle.life_script.specs.ScriptView.{ScriptView};
 ghost use Rattle.life_script.specs.declared.scenario.Limits.{Limits as LimitsView};
 ghost use Rattle.life_stack.specs.Driven.{BodyMay, FutureLive, FutureMay, StackMay, StackStands, drive_ends};
 ghost use Rattle.life_stack.specs.LiveAt.{HasRoom, IsIdle, LiveAt, MayGoOn, Shown};
 ghost use Rattle.life_stack.specs.Own.{NotBefore, Own};
-ghost use Rattle.life_stack.specs.StandsAt.{BodyAt, FreshAt, FutureAt};
+ghost use Rattle.life_stack.specs.StandsAt.{BodyAt, FreshAt, FutureAt, Shows};
 ghost use Rattle.life_stack.specs.Exchanged.{Ended};
 
 use crate::ext::Ext;
 use crate::script_service::ScriptBody;
 use crate::stack::{
     DriveBody, DriveFuture, DriveStack, abandon_body, abandon_future, call_stack, poll_body,
-    poll_future, script_request,
+    poll_future, request_of,
 };
 use bytes::Bytes;
 use http_body::Frame;
-use life_core::{Body, Cx, Got, Log, NoMemory, Octets, Poll, Recorder, Response};
-use life_script::{Act, Answer, Seen};
+use life_core::{
+    Body, Cx, Fields, Got, Log, NoMemory, Octets, Poll, Recorder, Response, ResponseHead,
+};
+use life_script::{Act, Answer, Script, Seen};
 use std::alloc::Global;
 
 /// What a request has that must be spent.
@@ -32,10 +35,16 @@ pub(crate) enum Live {
     Over,
 }
 
-/// What a frame of the driven body held: a chunk, since a scripted body gives no trailers.
+/// What is seen of a frame.
 fn seen_in(alloc: Global, frame: Frame<Bytes>) -> Got<Seen>
-    ensures { IfOk result (λ seen. (bytes : List ℕ) → frame ≡ data_frame bytes → seen ≡ Seen.Chunk bytes) }
+    ensures { IfOk result (λ seen. (s : SeenView) → Shows s frame → seen ≡ s) }
 {
+    if let Some(map) = frame.trailers_ref() {
+        return match Fields::of(alloc, map) {
+            Ok(fields) => Ok(Seen::Trailers(fields)),
+            Err(no_memory) => Err(no_memory),
+        };
+    }
     let octets = match frame.into_data() {
         Ok(bytes) => Octets::copy(alloc, bytes.as_slice()),
         Err(_) => Octets::copy(alloc, &[]),
@@ -56,6 +65,20 @@ fn give_up(body: DriveBody, no_memory: NoMemory, cx: &mut Cx<'_, Log>) -> Got<(L
     Err(no_memory)
 }
 
+/// What is told of a response whose body does or does not tell its end.
+fn response_answer(alloc: Global, head: &ResponseHead<Ext>, ended: bool) -> Got<Answer>
+    ensures { IfOk result (λ a. a ≡ Answer.Response head.now.parts.status (fields head.now.parts.headers) ended) }
+{
+    match Fields::of(alloc, &head.parts.headers) {
+        Ok(headers) => Ok(Answer::Response {
+            status: head.parts.status,
+            headers,
+            ended,
+        }),
+        Err(no_memory) => Err(no_memory),
+    }
+}
+
 /// A response, whose body is live from now on; `left` is how its future was given up.
 fn respond(
     response: Response<DriveBody, Ext>,
@@ -66,17 +89,16 @@ fn respond(
     ensures may { IfOk result (λ p. MayGoOn p.0) }
     ensures left { IfOk result (λ p. left ≡ Ok tt) }
     ensures live { IfOk result (λ p. p.0 ≡ Live.Body response.body) }
-    ensures answer { IfOk result (λ p. p.1 ≡ Answer.Response response.head.parts.status (drive_ends response.body)) }
+    ensures answer { IfOk result (λ p. p.1 ≡ Answer.Response response.head.parts.status (fields response.head.parts.headers) (drive_ends response.body)) }
     ensures kept { IfOk result (λ p. ⟦<Log as Recorder>⟧.recorded cx.new.rec.now ≡ ⟦<Log as Recorder>⟧.recorded cx.old.rec.now) }
     ensures context { SameContext ⟦<Log as Recorder>⟧.place cx.old cx.new }
 {
     let (head, body) = response.into_parts();
-    let status = head.status();
-    drop(head);
     let ended = Body::<Log>::is_end_stream(&body);
-    match left {
-        Ok(()) => Ok((Live::Body(body), Answer::Response { status, ended })),
-        Err(no_memory) => give_up(body, no_memory, cx),
+    match (left, response_answer(cx.alloc, &head, ended)) {
+        (Ok(()), Ok(answer)) => Ok((Live::Body(body), answer)),
+        (Ok(()), Err(no_memory)) => give_up(body, no_memory, cx),
+        (Err(no_memory), _) => give_up(body, no_memory, cx),
     }
 }
 
@@ -163,8 +185,13 @@ fn drop_streaming(body: DriveBody, cx: &mut Cx<'_, Log>) -> Got<(Live, Answer)>
     }
 }
 
-/// The first call of the request of a number.
-fn call_fresh(stack: &mut DriveStack, number: u64, cx: &mut Cx<'_, Log>) -> Got<(Live, Answer)>
+/// The first call of the request of a script and its number.
+fn call_fresh(
+    stack: &mut DriveStack,
+    script: &Script,
+    number: u64,
+    cx: &mut Cx<'_, Log>,
+) -> Got<(Live, Answer)>
     requires { StackMay stack.old }
     ensures may { IfOk result (λ p. MayGoOn p.0) }
     ensures may_stack { StackMay stack.new }
@@ -173,17 +200,21 @@ fn call_fresh(stack: &mut DriveStack, number: u64, cx: &mut Cx<'_, Log>) -> Got<
         → IfOk result (λ p. Shown limits script acts (cx.old.now, Act.Call) (⟦<Log as Recorder>⟧.recorded cx.old.rec.now) p (⟦<Log as Recorder>⟧.recorded cx.new.rec.now)) }
     ensures context { SameContext ⟦<Log as Recorder>⟧.place cx.old cx.new }
 {
-    let request = script_request(cx.alloc, number);
+    let request = match request_of(cx.alloc, script, number) {
+        Ok(request) => request,
+        Err(no_memory) => return Err(no_memory),
+    };
     match call_stack(stack, request, cx) {
         Ok(future) => Ok((Live::Future(future), Answer::Called)),
         Err(no_memory) => Err(no_memory),
     }
 }
 
-/// One act of the request of a number, at a time that is not before the acts so far. Where it is refused for
+/// One act of the request of a script and its number, at a time that is not before the acts so far. Where it is refused for
 /// memory, all that was live was given up. A Drop for whose record there is room is not refused.
 pub(crate) fn act_on(
     stack: &mut DriveStack,
+    script: &Script,
     number: u64,
     live: Live,
     act: Act,
@@ -203,7 +234,7 @@ pub(crate) fn act_on(
 {
     match live {
         Live::Fresh => match act {
-            Act::Call => call_fresh(stack, number, cx),
+            Act::Call => call_fresh(stack, script, number, cx),
             Act::Poll => Ok((Live::Fresh, Answer::Idle)),
             Act::Drop => Ok((Live::Fresh, Answer::Idle)),
         },

@@ -42,6 +42,7 @@ impl ScriptBody {
     {
         let Reply {
             status: _,
+            headers: _,
             body,
             tells,
         } = reply;
@@ -106,7 +107,15 @@ impl<L: Recorder> Body<L> for ScriptBody {
                     Err(_) => Err(NoMemory),
                 }
             }
+            Some(BodyItem::Trailers(trailers)) => match trailers.to_map(cx.alloc) {
+                Ok(map) => Ok(Poll::Ready(Some(Ok(Frame::trailers(map))))),
+                Err(no_memory) => Err(no_memory),
+            },
             Some(BodyItem::Pending) => Ok(Poll::Pending),
+            Some(BodyItem::Fault(fault)) => match fault.twin(cx.alloc) {
+                Ok(fault) => Ok(Poll::Ready(Some(Err(fault)))),
+                Err(no_memory) => Err(no_memory),
+            },
             None => Ok(Poll::Ready(None)),
         }
     }
@@ -159,23 +168,30 @@ impl<L: Recorder> Future<L> for ScriptFuture {
         };
         match &item.then {
             Then::Pending => Ok(Poll::Pending),
-            Then::Respond(reply) => match reply.twin(cx.alloc) {
-                Ok(reply) => Ok(Poll::Ready(Ok(respond(cx.alloc, reply)))),
+            Then::Fail(error) => match error.twin(cx.alloc) {
+                Ok(error) => Ok(Poll::Ready(Err(error))),
+                Err(no_memory) => Err(no_memory),
+            },
+            Then::Respond(reply) => match respond(cx.alloc, reply) {
+                Ok(response) => Ok(Poll::Ready(Ok(response))),
                 Err(no_memory) => Err(no_memory),
             },
         }
     }
 }
 
-/// The response of a script.
-fn respond(alloc: Global, reply: Reply) -> Response<ScriptBody, Ext>
-    ensures { IsReply reply result }
+/// The response of a script. The one error is want of memory.
+fn respond(alloc: Global, reply: &Reply) -> Got<Response<ScriptBody, Ext>>
+    ensures { IfOk result (IsReply reply.now) }
 {
-    let head = ResponseHead::bare(alloc, reply.status);
-    Response {
+    let headers = reply.headers.to_map(alloc)?;
+    let reply = reply.twin(alloc)?;
+    let mut head = ResponseHead::bare(alloc, reply.status);
+    head.parts.headers = headers;
+    Ok(Response {
         head,
         body: ScriptBody::of_reply(reply),
-    }
+    })
 }
 
 /// Serves each request by the script of the number in its extension, and one without such a script as

@@ -1,6 +1,5 @@
 //! The driven stack, and what each of its calls gives by the table of the story.
-ghost use Rattle.std.specs.Prelude.{◌≡◌, ℕ, List, [], Some, slice_get, IfOk, IfErr};
-ghost use Rattle.http.specs.Request.{IsNewHead};
+ghost use Rattle.std.specs.Prelude.{◌≡◌, ◌<◌, ℕ, List, [], Some, length, slice_get, IfOk, IfErr};
 ghost use Rattle.life_core.specs.History.{Grew};
 ghost use Rattle.life_core.specs.Moment.{SameContext};
 ghost use Rattle.life_core.specs.Poll.{IfReady, OnPending};
@@ -8,7 +7,8 @@ ghost use Rattle.life_script.specs.ScriptView.{ScriptView};
 ghost use Rattle.life_stack.specs.Driven.{BodyMay, FutureLive, FutureMay, StackMay, StackStands};
 ghost use Rattle.life_stack.specs.Own.{NotBefore, Own};
 ghost use Rattle.life_stack.specs.StandsAt.{BodyAt, BodyPolled, Called, FreshAt, FutureAnswered, FutureAt, FuturePolled};
-ghost use Rattle.life_stack.specs.Script.{IsDefaultBody, IsNumbered};
+ghost use Rattle.life_stack.specs.Script.{IsNumbered, IsRequestOf};
+ghost use Rattle.life_script.specs.Valid.{IsValid};
 ghost use Rattle.life_stack.specs.Story.{drops};
 ghost use Rattle.life_script.specs.declared.scenario.Limits.{Limits as LimitsView};
 
@@ -21,7 +21,7 @@ use life_core::{
     Text,
 };
 use life_drop::on_early_drop::{NoteDrop, NoteDropped, OnEarlyDropBody, OnEarlyDropService};
-use life_script::{Limits, Scenario, Scripts};
+use life_script::{Limits, Scenario, Script, Scripts};
 use life_time::timeout::{DeadlineBody, ResponseBodyDeadline, Timeout};
 use std::alloc::Global;
 use std::rc::Rc;
@@ -74,16 +74,36 @@ pub(crate) fn share(alloc: Global, scripts: &Scripts) -> Got<Rc<Scripts>>
     }
 }
 
-/// The request of a number: GET `/` in HTTP/1.1, with no headers and a body without items.
-pub fn script_request(alloc: Global, number: u64) -> Request<ScriptBody, Ext>
-    ensures head { IsNewHead result.head.parts }
-    ensures numbered { IsNumbered number result }
-    ensures body { IsDefaultBody result.body }
+/// The request of a script and its number: GET `/` in HTTP/1.1, with the script's headers in order and a body
+/// without items. The one error is want of memory.
+pub(crate) fn request_of(
+    alloc: Global,
+    script: &Script,
+    number: u64,
+) -> Got<Request<ScriptBody, Ext>>
+    ensures { IfOk result (IsRequestOf script.now number) }
 {
+    let headers = script.headers.to_map(alloc)?;
     let ext = Ext {
         number: Some(number),
     };
-    Request::new(alloc, ScriptBody::default(), ext)
+    let mut request = Request::new(alloc, ScriptBody::default(), ext);
+    request.head.parts.headers = headers;
+    Ok(request)
+}
+
+/// The request of the script of a number, which a valid scenario has: GET `/` in HTTP/1.1, with the script's
+/// headers in order and a body without items. The one error is want of memory.
+pub fn script_request(
+    alloc: Global,
+    scenario: &Scenario,
+    i: u64,
+) -> Got<Request<ScriptBody, Ext>>
+    requires valid { IsValid scenario.now }
+    requires within { i < length scenario.now.requests }
+    ensures { (script : ScriptView) → slice_get scenario.now.requests i ≡ Some script → IfOk result (IsRequestOf script i) }
+{
+    request_of(alloc, &scenario.requests.as_slice()[i as usize], i)
 }
 
 /// Calls the stack with the request of a number, which was not called before. Its future stands at the acts

@@ -1,18 +1,58 @@
 //! Each verdict once.
 use super::check;
 use crate::error::DriveError;
-use crate::scenario::{Act, Scenario, Script, Scripts, Step};
-use life_core::{Got, List};
+use crate::headers::HeaderList;
+use crate::scenario::{Act, BodyItem, PollItem, Reply, Scenario, Script, Scripts, Step, Then};
+use http::{HeaderName, HeaderValue, StatusCode};
+use life_core::{Got, List, NoMemory};
 use std::alloc::Global;
 use std::test::Fail;
+
+/// Header fields of this many values.
+fn headers(alloc: Global, count: u64) -> Got<HeaderList> {
+    let mut headers = HeaderList::new(alloc);
+    for _ in 0..count {
+        let name = HeaderName::from_bytes(alloc, b"x-many").map_err(|_| NoMemory)?;
+        let value = HeaderValue::from_bytes(alloc, b"1").map_err(|_| NoMemory)?;
+        headers.push(name, value)?;
+    }
+    Ok(headers)
+}
+
+/// A response with this many header values, and then this many trailers.
+fn reply(alloc: Global, count: u64, trailers: u64) -> Got<Reply> {
+    let headers = headers(alloc, count)?;
+    let mut body = List::new(alloc);
+    body.push(BodyItem::Pending)?;
+    body.push(BodyItem::Trailers(self::headers(alloc, trailers)?))?;
+    Ok(Reply {
+        status: StatusCode::OK,
+        headers,
+        body,
+        tells: true,
+    })
+}
+
+/// A script with this many header values, which is pending once and then answers this response.
+fn script(alloc: Global, count: u64, reply: Option<Reply>) -> Got<Script> {
+    let headers = headers(alloc, count)?;
+    let mut polls = List::new(alloc);
+    polls.push(PollItem {
+        then: Then::Pending,
+    })?;
+    if let Some(reply) = reply {
+        polls.push(PollItem {
+            then: Then::Respond(reply),
+        })?;
+    }
+    Ok(Script { headers, polls })
+}
 
 /// Scripts of this many requests.
 fn scripts(alloc: Global, count: u64) -> Got<Scripts> {
     let mut requests = List::new(alloc);
     for _ in 0..count {
-        requests.push(Script {
-            polls: List::new(alloc),
-        })?;
+        requests.push(script(alloc, 0, None)?)?;
     }
     Ok(requests)
 }
@@ -28,13 +68,21 @@ fn verdict(alloc: Global, count: u64, polls: &[(u64, u64)], end: u64) -> Got<Str
         })?;
     }
     let requests = scripts(alloc, count)?;
-    let answer = check(&Scenario {
-        requests,
-        steps,
-        end,
-    });
-    let words = match answer {
+    words(
+        alloc,
+        &Scenario {
+            requests,
+            steps,
+            end,
+        },
+    )
+}
+
+/// The verdict on a scenario, in words.
+fn words(alloc: Global, scenario: &Scenario) -> Got<String> {
+    let words = match check(scenario) {
         Ok(()) => String::from_str(alloc, "valid")?,
+        Err(DriveError::TooManyHeaders(i)) => format!(in alloc; "headers {i}")?,
         Err(DriveError::ClockBack(k)) => format!(in alloc; "back {k}")?,
         Err(DriveError::NoRequest(k)) => format!(in alloc; "none {k}")?,
         Err(DriveError::NoMemory) => String::from_str(alloc, "no memory")?,
@@ -64,5 +112,64 @@ fn verdicts(rt: HostRuntime) -> Result<(), Fail> {
         let words = verdict(alloc, count, polls, end)?;
         assert_eq!(rt; words.as_str(), want);
     }
+    Ok(())
+}
+
+/// The verdict, in words, on a second request with these numbers of values: its own, its response's, and
+/// its trailers'. A step is of a request that there is not.
+fn headers_verdict(alloc: Global, own: u64, response: u64, trailers: u64) -> Got<String> {
+    let mut requests = scripts(alloc, 1)?;
+    let reply = reply(alloc, response, trailers)?;
+    requests.push(script(alloc, own, Some(reply))?)?;
+    let mut steps = List::new(alloc);
+    steps.push(Step {
+        at: 0,
+        request: 9,
+        act: Act::Call,
+    })?;
+    words(
+        alloc,
+        &Scenario {
+            requests,
+            steps,
+            end: 1,
+        },
+    )
+}
+
+#[test]
+fn header_verdicts(rt: HostRuntime) -> Result<(), Fail> {
+    let alloc = rt.alloc();
+    let rows = [
+        (0, 0, 0, "none 0"),
+        (1000, 1000, 1000, "none 0"),
+        (1001, 0, 0, "headers 1"),
+        (0, 1001, 0, "headers 1"),
+        (0, 0, 1001, "headers 1"),
+    ];
+    for (own, response, trailers, want) in rows {
+        let words = headers_verdict(alloc, own, response, trailers)?;
+        assert_eq!(rt; words.as_str(), want);
+    }
+    Ok(())
+}
+
+#[test]
+fn first_of_two(rt: HostRuntime) -> Result<(), Fail> {
+    let alloc = rt.alloc();
+    let mut requests = List::new(alloc);
+    requests.push(script(alloc, 1000, None)?)?;
+    requests.push(script(alloc, 1001, None)?)?;
+    requests.push(script(alloc, 1002, None)?)?;
+    let steps = List::new(alloc);
+    let words = words(
+        alloc,
+        &Scenario {
+            requests,
+            steps,
+            end: 0,
+        },
+    )?;
+    assert_eq!(rt; words.as_str(), "headers 1");
     Ok(())
 }

@@ -1,7 +1,7 @@
 //! What stands at the keys of an object.
 ghost use Rattle.std.specs.Prelude.{◌≡◌, codes, map, option_map};
 ghost use Rattle.serde_json.specs.View.{view};
-ghost use Rattle.life_script.specs.Reading.{has, number_at, status_at, items_at, is_string};
+ghost use Rattle.life_script.specs.Reading.{has, number_at, status_at, items_in, items_at, is_string};
 
 use http::StatusCode;
 use serde_json::Value;
@@ -29,12 +29,19 @@ pub fn status_at(value: &Value, key: &str) -> Option<StatusCode>
     StatusCode::from_u16(number).ok()
 }
 
+/// The items of an array.
+pub fn items_in(value: &Value) -> Option<&[Value]>
+    ensures { option_map (λ items. map view items.now) result ≡ items_in (view value.now) }
+{
+    let items = value.as_array()?;
+    Some(items.as_slice())
+}
+
 /// The items of the array at a key.
 pub fn items_at<'v>(value: &'v Value, key: &str) -> Option<&'v [Value]>
     ensures { option_map (λ items. map view items.now) result ≡ items_at key.now (view value.now) }
 {
-    let items = value.get(key)?.as_array()?;
-    Some(items.as_slice())
+    items_in(value.get(key)?)
 }
 
 /// Whether it is this string.

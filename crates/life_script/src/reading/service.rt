@@ -1,32 +1,79 @@
 //! What is read of the service: the scripts of its requests.
 ghost use Rattle.std.specs.Prelude.{◌≡◌, IfOk};
 ghost use Rattle.serde_json.specs.View.{view};
-ghost use Rattle.life_script.specs.Reading.{Bad, built, body_item_part, reply_part, then_part, poll_item_part, has_unbuilt_request, script_part};
+ghost use Rattle.life_script.specs.Reading.{Bad, built, headers_at, text_at, chunk_part, body_item_part, reply_part, then_part, poll_item_part, has_unbuilt_request, script_part};
 
 use crate::error::ReadError;
+use crate::headers::HeaderList;
 use crate::reading::fields::{has, is_string, status_at};
 use crate::reading::part::{Built, Part, read_all_at};
 use crate::scenario::{BodyItem, PollItem, Reply, Script, Then};
-use life_core::Octets;
+use http::{HeaderName, HeaderValue};
+use life_core::{Octets, Text};
 use serde_json::Value;
 use std::alloc::Global;
+
+/// Reads header fields.
+fn read_headers_at(alloc: Global, value: &Value, key: &str) -> Built<HeaderList>
+    ensures ok { IfOk result (λ headers. headers_at key.now (view value.now) ≡ built headers) }
+    ensures bad { result ≡ Err ReadError.BadScenario → headers_at key.now (view value.now) ≡ Bad }
+    ensures never { ¬ (result ≡ Err ReadError.NotBuilt) }
+{
+    match read_all_at::<(HeaderName, HeaderValue)>(alloc, value, key)? {
+        Some(pairs) => Ok(Some(HeaderList::from_list(pairs))),
+        None => Ok(None),
+    }
+}
+
+/// Reads a text.
+fn read_text_at(alloc: Global, value: &Value, key: &str) -> Built<Text>
+    ensures ok { IfOk result (λ text. text_at key.now (view value.now) ≡ built text) }
+    ensures bad { result ≡ Err ReadError.BadScenario → text_at key.now (view value.now) ≡ Bad }
+    ensures never { ¬ (result ≡ Err ReadError.NotBuilt) }
+{
+    let Some(text) = value.get(key).and_then(Value::as_str) else {
+        return Err(ReadError::BadScenario);
+    };
+    match Text::copy(alloc, text) {
+        Ok(text) => Ok(Some(text)),
+        Err(_) => Err(ReadError::NoMemory),
+    }
+}
+
+/// Reads a chunk of a body.
+fn read_chunk(alloc: Global, value: &Value) -> Built<BodyItem>
+    ensures ok { IfOk result (λ item. chunk_part (view value.now) ≡ built item) }
+    ensures bad { result ≡ Err ReadError.BadScenario → chunk_part (view value.now) ≡ Bad }
+    ensures never { ¬ (result ≡ Err ReadError.NotBuilt) }
+{
+    let Some(text) = value.get("data").and_then(Value::as_str) else {
+        return Err(ReadError::BadScenario);
+    };
+    match Octets::copy(alloc, text.as_bytes()) {
+        Ok(bytes) => Ok(Some(BodyItem::Chunk(bytes))),
+        Err(_) => Err(ReadError::NoMemory),
+    }
+}
 
 impl Part for BodyItem {
     ghost reads = { body_item_part };
 
     fn read(alloc: Global, value: &Value) -> Built<BodyItem> {
-        if has(value, "trailers") || has(value, "fault") {
-            return Ok(None);
-        }
         if is_string(value, "pending") {
             return Ok(Some(BodyItem::Pending));
         }
-        let Some(text) = value.get("data").and_then(Value::as_str) else {
-            return Err(ReadError::BadScenario);
-        };
-        match Octets::copy(alloc, text.as_bytes()) {
-            Ok(bytes) => Ok(Some(BodyItem::Chunk(bytes))),
-            Err(_) => Err(ReadError::NoMemory),
+        if has(value, "data") {
+            return read_chunk(alloc, value);
+        }
+        if has(value, "trailers") {
+            return match read_headers_at(alloc, value, "trailers")? {
+                Some(trailers) => Ok(Some(BodyItem::Trailers(trailers))),
+                None => Ok(None),
+            };
+        }
+        match read_text_at(alloc, value, "fault")? {
+            Some(text) => Ok(Some(BodyItem::Fault(text))),
+            None => Ok(None),
         }
     }
 }
@@ -43,17 +90,17 @@ fn read_reply(alloc: Global, value: &Value) -> Built<Reply>
     let Some(tells) = value.get("tells").and_then(Value::as_bool) else {
         return Err(ReadError::BadScenario);
     };
-    let Some(body) = read_all_at::<BodyItem>(alloc, value, "body")? else {
-        return Ok(None);
-    };
-    if has(value, "headers") {
-        return Ok(None);
+    let headers = read_headers_at(alloc, value, "headers")?;
+    let body = read_all_at::<BodyItem>(alloc, value, "body")?;
+    match (headers, body) {
+        (Some(headers), Some(body)) => Ok(Some(Reply {
+            status,
+            headers,
+            body,
+            tells,
+        })),
+        _ => Ok(None),
     }
-    Ok(Some(Reply {
-        status,
-        body,
-        tells,
-    }))
 }
 
 /// Reads what is answered.
@@ -62,11 +109,17 @@ fn read_then(alloc: Global, value: &Value) -> Built<Then>
     ensures bad { result ≡ Err ReadError.BadScenario → then_part (view value.now) ≡ Bad }
     ensures never { ¬ (result ≡ Err ReadError.NotBuilt) }
 {
-    if has(value, "panic") || has(value, "fail") {
-        return Ok(None);
-    }
     if is_string(value, "pending") {
         return Ok(Some(Then::Pending));
+    }
+    if has(value, "panic") {
+        return Ok(None);
+    }
+    if has(value, "fail") {
+        return match read_text_at(alloc, value, "fail")? {
+            Some(text) => Ok(Some(Then::Fail(text))),
+            None => Ok(None),
+        };
     }
     let Some(reply) = value.get("respond") else {
         return Err(ReadError::BadScenario);
@@ -98,23 +151,18 @@ impl Part for PollItem {
 fn has_unbuilt_request(value: &Value) -> bool
     ensures { result ≡ has_unbuilt_request (view value.now) }
 {
-    has(value, "method")
-        || has(value, "uri")
-        || has(value, "headers")
-        || has(value, "body")
-        || has(value, "call")
+    has(value, "method") || has(value, "uri") || has(value, "body") || has(value, "call")
 }
 
 impl Part for Script {
     ghost reads = { script_part };
 
     fn read(alloc: Global, value: &Value) -> Built<Script> {
-        let Some(polls) = read_all_at::<PollItem>(alloc, value, "polls")? else {
-            return Ok(None);
-        };
-        if has_unbuilt_request(value) {
-            return Ok(None);
+        let headers = read_headers_at(alloc, value, "headers")?;
+        let polls = read_all_at::<PollItem>(alloc, value, "polls")?;
+        match (headers, polls, has_unbuilt_request(value)) {
+            (Some(headers), Some(polls), false) => Ok(Some(Script { headers, polls })),
+            _ => Ok(None),
         }
-        Ok(Some(Script { polls }))
     }
 }

@@ -1,8 +1,11 @@
 //! Each form of text once.
-use super::{answer_text, event_text};
+use super::{TextBuilder, answer_text, event_text};
 use crate::answer::{Answer, Seen};
-use http::StatusCode;
-use life_core::{BodyError, DropKind, Event, Got, Latency, LatencyUnit, Octets, Text};
+use crate::headers::HeaderList;
+use http::{HeaderName, HeaderValue, StatusCode};
+use life_core::{
+    BodyError, DropKind, Event, Fields, Got, Latency, LatencyUnit, NoMemory, Octets, Shown, Text,
+};
 use std::alloc::Global;
 use std::process::Abort;
 use std::test::Fail;
@@ -20,19 +23,69 @@ fn frame(alloc: Global, bytes: &[u8], ended: bool) -> Got<Answer> {
     Ok(Answer::Frame { frame, ended })
 }
 
+/// The fields of these names and values.
+fn fields(alloc: Global, pairs: &[(&str, &str)]) -> Got<Fields> {
+    let mut headers = HeaderList::new(alloc);
+    for (name, value) in pairs {
+        let name = HeaderName::from_bytes(alloc, name.as_bytes()).map_err(|_| NoMemory)?;
+        let value = HeaderValue::from_bytes(alloc, value.as_bytes()).map_err(|_| NoMemory)?;
+        headers.push(name, value)?;
+    }
+    Fields::of(alloc, &headers.to_map(alloc)?)
+}
+
+/// A response with these headers.
+fn response(alloc: Global, pairs: &[(&str, &str)], ended: bool) -> Got<Answer> {
+    let headers = fields(alloc, pairs)?;
+    Ok(Answer::Response {
+        status: StatusCode::OK,
+        headers,
+        ended,
+    })
+}
+
+#[test]
+fn responses(rt: HostRuntime) -> Result<(), Fail> {
+    let alloc = rt.alloc();
+    let bare = response(alloc, &[], false)?;
+    shows(&rt, alloc, bare, "response 200 open {}")?;
+    let one = response(alloc, &[("X-Id", "")], true)?;
+    shows(&rt, alloc, one, r#"response 200 ended {x-id: [""]}"#)?;
+    let mixed = [("b", "2"), ("ab", "t\\"), ("B", "1"), ("a", "3")];
+    let many = response(alloc, &mixed, true)?;
+    let want = r#"response 200 ended {a: ["3"], ab: ["t\\"], b: ["2", "1"]}"#;
+    shows(&rt, alloc, many, want)?;
+    Ok(())
+}
+
+#[test]
+fn trailers(rt: HostRuntime) -> Result<(), Fail> {
+    let alloc = rt.alloc();
+    for (ended, want) in [
+        (false, r#"trailers {x-sum: ["1\"", "2"]} open"#),
+        (true, r#"trailers {x-sum: ["1\"", "2"]} ended"#),
+    ] {
+        let sums = fields(alloc, &[("x-sum", "1\""), ("x-sum", "2")])?;
+        let frame = Seen::Trailers(sums);
+        shows(&rt, alloc, Answer::Frame { frame, ended }, want)?;
+    }
+    Ok(())
+}
+
+#[test]
+fn hidden_value(rt: HostRuntime) -> Result<(), Fail> {
+    let mut text = TextBuilder::new(rt.alloc());
+    text.value(&Shown::Sensitive)?;
+    assert_eq!(rt; text.finish().as_slice(), b"Sensitive" as &[u8]);
+    Ok(())
+}
+
 #[test]
 fn answers(rt: HostRuntime) -> Result<(), Fail> {
     let alloc = rt.alloc();
-    let status = StatusCode::OK;
     shows(&rt, alloc, Answer::Called, "called")?;
     shows(&rt, alloc, Answer::Idle, "idle")?;
     shows(&rt, alloc, Answer::Pending, "pending")?;
-    for (ended, want) in [
-        (false, "response 200 open {}"),
-        (true, "response 200 ended {}"),
-    ] {
-        shows(&rt, alloc, Answer::Response { status, ended }, want)?;
-    }
     let refused = Text::copy(alloc, "no \u{e9}")?;
     shows(
         &rt,
