@@ -125,7 +125,7 @@ module _ (limits : Limits) (script : ScriptView) where
         let status_is : resp.head.parts.status ≡ r.status = m.0.status_is ∙ ap (λ h. h.0) plain in
         let headers_are : fields resp.head.parts.headers ≡ shown_headers r.headers = ap fields m.0.headers_are ∙ ap (λ h. shown_headers h.1) plain in (
           a ∙ sym (ap (λ x. ans.Response x (fields resp.head.parts.headers) (drive_ends resp.body)) status_is
-          ∙ ap (λ x. ans.Response r.status x (drive_ends resp.body)) headers_are ∙ ap (ans.Response r.status (shown_headers r.headers)) tells),
+              ∙ ap (λ x. ans.Response r.status x (drive_ends resp.body)) headers_are ∙ ap (ans.Response r.status (shown_headers r.headers)) tells),
           (
             record { t0 = at.t0; called = called_kept before (t, act.Poll) at.t0 at.called; stands = stands },
             record {

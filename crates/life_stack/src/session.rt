@@ -176,13 +176,7 @@ impl Session {
             alloc,
         } = self;
         let step = steps.as_slice()[done as usize];
-        match run_step(
-            &mut stack,
-            scripts.as_slice(),
-            &mut exchanges,
-            step,
-            alloc,
-        ) {
+        match run_step(&mut stack, scripts.as_slice(), &mut exchanges, step, alloc) {
             Ok(()) => Ok(Session {
                 limits,
                 scripts,

@@ -94,11 +94,7 @@ pub(crate) fn request_of(
 
 /// The request of the script of a number, which a valid scenario has: GET `/` in HTTP/1.1, with the script's
 /// headers in order and a body without items. The one error is want of memory.
-pub fn script_request(
-    alloc: Global,
-    scenario: &Scenario,
-    i: u64,
-) -> Got<Request<ScriptBody, Ext>>
+pub fn script_request(alloc: Global, scenario: &Scenario, i: u64) -> Got<Request<ScriptBody, Ext>>
     requires valid { IsValid scenario.now }
     requires within { i < length scenario.now.requests }
     ensures { (script : ScriptView) → slice_get scenario.now.requests i ≡ Some script → IfOk result (IsRequestOf script i) }

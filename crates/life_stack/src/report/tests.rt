@@ -4,7 +4,8 @@ use crate::driving::drive;
 use http::StatusCode;
 use life_core::{Got, List, Octets};
 use life_script::{
-    Act, BodyItem, DriveError, Limits, PollItem, PollItems, Reply, Scenario, Script, Step, Then,
+    Act, BodyItem, DriveError, HeaderList, Limits, PollItem, PollItems, Reply, Scenario, Script,
+    Step, Then,
 };
 use std::alloc::Global;
 use std::test::Fail;
@@ -17,6 +18,7 @@ fn script(alloc: Global, status: Option<StatusCode>) -> Got<Script> {
         body.push(BodyItem::Chunk(Octets::copy(alloc, b"hi")?))?;
         let reply = Reply {
             status,
+            headers: HeaderList::new(alloc),
             body,
             tells: true,
         };
@@ -24,7 +26,10 @@ fn script(alloc: Global, status: Option<StatusCode>) -> Got<Script> {
             then: Then::Respond(reply),
         })?;
     }
-    Ok(Script { polls })
+    Ok(Script {
+        headers: HeaderList::new(alloc),
+        polls,
+    })
 }
 
 /// Two requests, of which the second never answers, with these steps.

@@ -6,8 +6,16 @@ use life_script::{answer_text, read_scenario};
 use std::process::Abort;
 use std::test::Fail;
 
-/// A script that answers status 200 and a body of one piece.
-const HI: &str = r#"[{"then":{"respond":{"status":200,"body":[{"data":"hi"}],"tells":true}}}]"#;
+/// A request that is answered with status 200 and a body of one piece.
+const HI: &str =
+    r#"{"headers":[],"polls":[{"then":{"respond":{"status":200,"headers":[],"body":[{"data":"hi"}],"tells":true}}}]}"#;
+
+/// A request that is answered with status 200 and no body.
+const READY: &str =
+    r#"{"headers":[],"polls":[{"then":{"respond":{"status":200,"headers":[],"body":[],"tells":true}}}]}"#;
+
+/// A request that is never answered.
+const SILENT: &str = r#"{"headers":[],"polls":[]}"#;
 
 /// Steps that read that body to its end.
 const READ: &str = r#"[[0,0,"call"],[3,0,"poll"],[4,0,"poll"],[5,0,"drop"]]"#;
@@ -47,11 +55,11 @@ fn strings(alloc: Global, words: &[&str]) -> Got<Vec<String>> {
     Ok(strings)
 }
 
-/// A scenario with one request, a timeout of 10 and a deadline of 20.
-fn scenario(alloc: Global, polls: &str, steps: &str, end: u64) -> Got<String> {
+/// A scenario with these requests, a timeout of 10 and a deadline of 20.
+fn scenario(alloc: Global, requests: &str, steps: &str, end: u64) -> Got<String> {
     let limits = r#"{"timeout":10,"timeout_status":408,"body_deadline":20}"#;
     let text = format!(in alloc;
-        "{{\"version\":1,\"limits\":{limits},\"requests\":[{{\"polls\":{polls}}}],\"steps\":{steps},\"end\":{end}}}"
+        "{{\"version\":1,\"limits\":{limits},\"requests\":[{requests}],\"steps\":{steps},\"end\":{end}}}"
     )?;
     Ok(text)
 }
@@ -100,11 +108,26 @@ fn always_ends_with(
     Ok(())
 }
 
+/// Asserts that scenarios with these requests, steps and ends give these reports.
+fn report(rt: &(impl Abort + AllocGlobal), rows: &[(&str, &str, &str, u64, &str)]) -> Got<()> {
+    for &(name, requests, steps, end, want) in rows {
+        let text = scenario(rt.alloc(), requests, steps, end)?;
+        always_ends_with(rt, name, text.as_bytes(), (Status::Done, want))?;
+    }
+    Ok(())
+}
+
 /// No clause says that a run is ever more than want of memory. These are.
 #[test]
 fn driven_scenarios(rt: HostRuntime) -> Result<(), Fail> {
-    let alloc = rt.alloc();
     let rows = [
+        (
+            "nothing",
+            "",
+            "[]",
+            0,
+            "total: 0 requests, 0 steps, end 0\n",
+        ),
         (
             "read to its end",
             HI,
@@ -114,30 +137,94 @@ fn driven_scenarios(rt: HostRuntime) -> Result<(), Fail> {
         ),
         (
             "timed out",
-            r#"[{"then":{"respond":{"status":200,"body":[],"tells":true}}}]"#,
+            READY,
             r#"[[0,0,"call"],[10,0,"poll"]]"#,
             10,
             "step 0 at 0 request 0 call: called\nstep 1 at 10 request 0 poll: response 408 ended {}\ntotal: 1 requests, 2 steps, end 10\n",
         ),
         (
             "never answered",
-            "[]",
+            SILENT,
             r#"[[7,0,"call"]]"#,
             9,
             "step 0 at 7 request 0 call: called\nend at 9 request 0\n  dropped future latency 2 ns\ntotal: 1 requests, 1 steps, end 9\n",
         ),
         (
+            "two requests",
+            r#"{"headers":[],"polls":[{"then":{"respond":{"status":200,"headers":[],"body":[],"tells":true}}}]},{"headers":[],"polls":[{"then":{"respond":{"status":200,"headers":[],"body":[],"tells":true}}}]}"#,
+            r#"[[0,0,"call"],[1,1,"call"],[2,1,"poll"],[3,0,"poll"]]"#,
+            3,
+            "step 0 at 0 request 0 call: called\nstep 1 at 1 request 1 call: called\nstep 2 at 2 request 1 poll: response 200 ended {}\nstep 3 at 3 request 0 poll: response 200 ended {}\ntotal: 2 requests, 4 steps, end 3\n",
+        ),
+    ];
+    report(&rt, &rows)?;
+    Ok(())
+}
+
+#[test]
+fn early_drops(rt: HostRuntime) -> Result<(), Fail> {
+    let waits =
+        r#"{"headers":[],"polls":[{"then":{"respond":{"status":201,"headers":[],"body":["pending"],"tells":false}}}]}"#;
+    let tells =
+        r#"{"headers":[],"polls":[{"then":{"respond":{"status":201,"headers":[],"body":["pending"],"tells":true}}}]}"#;
+    let rows = [
+        (
             "dropped while its body waits",
-            r#"[{"then":{"respond":{"status":201,"body":["pending"],"tells":false}}}]"#,
+            waits,
             r#"[[0,0,"call"],[1,0,"poll"],[6,0,"drop"]]"#,
             6,
             "step 0 at 0 request 0 call: called\nstep 1 at 1 request 0 poll: response 201 open {}\nstep 2 at 6 request 0 drop: dropped\n  dropped body 201 latency 6 ns\ntotal: 1 requests, 3 steps, end 6\n",
         ),
+        (
+            "dropped after a poll of its body",
+            tells,
+            r#"[[0,0,"call"],[1,0,"poll"],[2,0,"poll"],[3,0,"drop"]]"#,
+            3,
+            "step 0 at 0 request 0 call: called\nstep 1 at 1 request 0 poll: response 201 open {}\nstep 2 at 2 request 0 poll: pending\nstep 3 at 3 request 0 drop: dropped\n  dropped body 201 latency 3 ns\ntotal: 1 requests, 4 steps, end 3\n",
+        ),
+        (
+            "nothing to do",
+            SILENT,
+            r#"[[0,0,"poll"],[1,0,"call"],[2,0,"call"],[3,0,"drop"],[4,0,"poll"],[5,0,"call"],[6,0,"drop"]]"#,
+            6,
+            "step 0 at 0 request 0 poll: idle\nstep 1 at 1 request 0 call: called\nstep 2 at 2 request 0 call: idle\nstep 3 at 3 request 0 drop: dropped\n  dropped future latency 2 ns\nstep 4 at 4 request 0 poll: idle\nstep 5 at 5 request 0 call: idle\nstep 6 at 6 request 0 drop: idle\ntotal: 1 requests, 7 steps, end 6\n",
+        ),
     ];
-    for (name, polls, steps, end, want) in rows {
-        let text = scenario(alloc, polls, steps, end)?;
-        always_ends_with(&rt, name, text.as_bytes(), (Status::Done, want))?;
-    }
+    report(&rt, &rows)?;
+    Ok(())
+}
+
+#[test]
+fn faults_and_headers(rt: HostRuntime) -> Result<(), Fail> {
+    let fails = r#"{"headers":[],"polls":[{"then":{"fail":"boom"}}]}"#;
+    let faults =
+        r#"{"headers":[],"polls":[{"then":{"respond":{"status":200,"headers":[],"body":[{"fault":"bad"}],"tells":false}}}]}"#;
+    let trailers =
+        r#"{"headers":[],"polls":[{"then":{"respond":{"status":200,"headers":[["x-request-id","foo"],["b","2"],["B","1"]],"body":[{"trailers":[["b","2"],["a","1"]]}],"tells":true}}}]}"#;
+    let rows = [
+        (
+            "a service error",
+            fails,
+            r#"[[0,0,"call"],[1,0,"poll"],[2,0,"drop"]]"#,
+            2,
+            "step 0 at 0 request 0 call: called\nstep 1 at 1 request 0 poll: error \"boom\"\nstep 2 at 2 request 0 drop: idle\ntotal: 1 requests, 3 steps, end 2\n",
+        ),
+        (
+            "a fault of a body",
+            faults,
+            r#"[[0,0,"call"],[1,0,"poll"],[2,0,"poll"],[3,0,"poll"],[4,0,"drop"]]"#,
+            4,
+            "step 0 at 0 request 0 call: called\nstep 1 at 1 request 0 poll: response 200 open {}\nstep 2 at 2 request 0 poll: fault inner \"bad\"\nstep 3 at 3 request 0 poll: end\nstep 4 at 4 request 0 drop: dropped\ntotal: 1 requests, 5 steps, end 4\n",
+        ),
+        (
+            "headers and trailers",
+            trailers,
+            r#"[[0,0,"call"],[1,0,"poll"],[2,0,"poll"]]"#,
+            2,
+            "step 0 at 0 request 0 call: called\nstep 1 at 1 request 0 poll: response 200 open {b: [\"2\", \"1\"], x-request-id: [\"foo\"]}\nstep 2 at 2 request 0 poll: trailers {a: [\"1\"], b: [\"2\"]} ended\ntotal: 1 requests, 3 steps, end 2\n",
+        ),
+    ];
+    report(&rt, &rows)?;
     Ok(())
 }
 
@@ -147,27 +234,36 @@ fn scenarios_that_are_not_driven(rt: HostRuntime) -> Result<(), Fail> {
     let rows = [
         (
             "a clock that goes back",
+            SILENT,
             r#"[[5,0,"call"],[4,9,"call"]]"#,
             4,
             "refused: clock back at step 1\n",
         ),
         (
+            "an end before the last step",
+            SILENT,
+            r#"[[5,0,"call"]]"#,
+            4,
+            "refused: clock back at step 1\n",
+        ),
+        (
             "a step of no request",
-            r#"[[5,0,"call"],[6,9,"call"]]"#,
+            "",
+            r#"[[0,0,"call"]]"#,
             7,
-            "refused: no request at step 1\n",
+            "refused: no request at step 0\n",
         ),
     ];
-    for (name, steps, end, want) in rows {
-        let text = scenario(alloc, "[]", steps, end)?;
+    for (name, requests, steps, end, want) in rows {
+        let text = scenario(alloc, requests, steps, end)?;
         always_ends_with(&rt, name, text.as_bytes(), (Status::Refused, want))?;
     }
     let good = scenario(alloc, HI, READ, 5)?;
-    let headers = good.replacen(alloc, "\"polls\"", "\"headers\":[],\"polls\"", 1)?;
+    let body = good.replacen(alloc, "\"polls\"", "\"body\":[],\"polls\"", 1)?;
     let cut = good.as_bytes();
     let cut = &cut[..cut.len().min(20)];
     let rows = [
-        ("request headers", headers.as_bytes(), "not built\n"),
+        ("a request's body", body.as_bytes(), "not built\n"),
         ("a cut text", cut, "bad scenario\n"),
     ];
     for (name, input, want) in rows {

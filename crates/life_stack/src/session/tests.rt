@@ -1,8 +1,11 @@
 //! A session by hand: two requests, step by step.
 use super::Session;
-use http::StatusCode;
+use crate::driving::drive;
+use http::{HeaderName, HeaderValue, StatusCode};
 use life_core::{Got, List};
-use life_script::{Act, Limits, PollItem, Reply, Scenario, Script, Step, Then, answer_text};
+use life_script::{
+    Act, DriveError, HeaderList, Limits, PollItem, Reply, Scenario, Script, Step, Then, answer_text,
+};
 use std::alloc::Global;
 use std::process::Abort;
 use std::test::Fail;
@@ -23,11 +26,15 @@ fn ready(alloc: Global) -> Got<Script> {
     polls.push(PollItem {
         then: Then::Respond(Reply {
             status: StatusCode::OK,
+            headers: HeaderList::new(alloc),
             body: List::new(alloc),
             tells: true,
         }),
     })?;
-    Ok(Script { polls })
+    Ok(Script {
+        headers: HeaderList::new(alloc),
+        polls,
+    })
 }
 
 /// Requests that are ready, so many, with these steps.
@@ -92,4 +99,40 @@ fn interleaved_requests(rt: HostRuntime) -> Result<(), Fail> {
         1,
         &["called", "response 200 ended {}", "dropped"],
     )
+}
+
+/// A ready request with this many header values.
+fn many_headers(alloc: Global, count: u64) -> Result<Script, Fail> {
+    let mut script = ready(alloc)?;
+    for _ in 0..count {
+        let name = HeaderName::from_bytes(alloc, b"a")?;
+        let value = HeaderValue::from_bytes(alloc, b"1")?;
+        script.headers.push(name, value)?;
+    }
+    Ok(script)
+}
+
+/// Two requests of which the second has this many header values, with one call.
+fn with_headers(alloc: Global, count: u64, request: u64) -> Result<Scenario, Fail> {
+    let made = [(0, request, Act::Call)];
+    let mut scenario = scenario(alloc, 1, &made, 1)?;
+    scenario.requests.push(many_headers(alloc, count)?)?;
+    Ok(scenario)
+}
+
+#[test]
+fn too_many_headers(rt: HostRuntime) -> Result<(), Fail> {
+    let alloc = rt.alloc();
+    let refused = with_headers(alloc, 1001, 9)?;
+    let named = match drive(alloc, &limits(), &refused) {
+        Err(DriveError::TooManyHeaders(i)) => Some(i),
+        _ => None,
+    };
+    assert_eq!(rt; named, Some(1));
+    let driven = with_headers(alloc, 1000, 1)?;
+    let report = drive(alloc, &limits(), &driven)?;
+    assert!(rt; 1 < report.requests());
+    assert_eq!(rt; report.told(1).turns.len(), 1);
+    assert_eq!(rt; report.told(1).at_end.len(), 1);
+    Ok(())
 }
