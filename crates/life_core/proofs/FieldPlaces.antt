@@ -1,20 +1,17 @@
--- An entry that is put at its place, and the order of the entries.
+-- An entry that is put at its place.
 use Rattle.std.proofs.Common.{◌≡◌, ℕ, suc, ◌+◌, ◌≤◌, Bool, true, false, cond, not, List, [], ◌∷◌, length, bytes_eq, Some, None, sym, refl, ap, ◌∙◌, subst, arith, true≢false}
 use Rattle.std.specs.Prelude.{slice_get, slice_set, position, option_map, unwrap_or, nat_lt}
 use Rattle.std.specs.List.{insert, position_or_len}
-use lib.Dec.{T}
-use Rattle.std.specs.FinMap.{put, is_sorted, slice_cmp-IsAntisymmetric, nat_cmp-IsAntisymmetric}
-use Rattle.std.specs.FinMap.Entries.{by_order, is_sorted-put}
+use Rattle.std.specs.FinMap.{put, slice_cmp-IsAntisymmetric, nat_cmp-IsAntisymmetric}
+use Rattle.std.specs.FinMap.Entries.{by_order}
 use Rattle.std.specs.Ordering.{is_le, is_eq}
-use Rattle.std.proofs.lemmas.Cmp.{nat_list_cmp_total}
 use Rattle.std.proofs.lemmas.Map.Text.{is_eq-slice_cmp}
 use Rattle.std.specs.declared.cmp.Ordering.TheVariants.{Less, Equal, Greater}
 use Rattle.std.proofs.lemmas.Bool.{ltb-false}
 use Rattle.std.proofs.lemmas.List.Sums.{prefix_len-le-length}
-use Rattle.http_header.specs.HeaderMap.{Entry, Entries, keys}
-use Rattle.http_header.specs.FieldValue.{FieldValue}
+use Rattle.http_header.specs.HeaderMap.{Entry, Entries}
 use Rattle.life_core.specs.declared.fields.Shown.{Shown}
-use Rattle.life_core.specs.Fields.{name_cmp, values_of, put_all, fields, IsSorted}
+use Rattle.life_core.specs.Fields.{name_cmp}
 
 or_last : (n m : ℕ) → n ≤ m → unwrap_or (cond (nat_lt n m) (Some n) None) m ≡ n
 or_last n m le = by_test (nat_lt n m) refl
@@ -74,16 +71,3 @@ module _ (entry : Entry Shown) (old es first second : Entries Shown) (n m : List
 
   pub inserted : there ≡ false → insert es at entry ≡ put name_cmp entry.0 entry.1 old
   inserted h = puts.1 (same_test ∙ h) ∙ ap (put name_cmp entry.0 entry.1) (sym old_is)
-
-put_all_sorted : (headers : Entries FieldValue) (names : List (List ℕ)) (es : Entries Shown) → T (is_sorted name_cmp es) → T (is_sorted name_cmp (put_all headers es names))
-put_all_sorted headers [] es h = h
-put_all_sorted headers (name ∷ names) es h =
-    put_all_sorted headers names (put name_cmp name (values_of headers name) es) (is_sorted-put name_cmp nat_list_cmp_total name (values_of headers name) es h)
-
-passes : (b : Bool) → T b → b ≡ true
-passes true h = refl
-passes false h = absurd h
-
--- the fields of headers are sorted by name, each name once
-pub fields_sorted : (headers : Entries FieldValue) → IsSorted (fields headers)
-fields_sorted headers = passes (is_sorted name_cmp (fields headers)) (put_all_sorted headers (keys headers) [] tt)

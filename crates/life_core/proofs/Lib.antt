@@ -1,4 +1,5 @@
 pub mod Due
+pub mod FieldLaws
 pub mod FieldPlaces
 pub mod Growth
 pub mod Pieces

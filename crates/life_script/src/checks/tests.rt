@@ -9,7 +9,7 @@ use std::alloc::Global;
 use std::test::Fail;
 
 /// Header fields of this many values.
-fn headers(alloc: Global, count: u64) -> Got<HeaderList> {
+fn many(alloc: Global, count: u64) -> Got<HeaderList> {
     let mut headers = HeaderList::new(alloc);
     for _ in 0..count {
         let name = HeaderName::from_bytes(alloc, b"x-many").map_err(|_| NoMemory)?;
@@ -21,10 +21,10 @@ fn headers(alloc: Global, count: u64) -> Got<HeaderList> {
 
 /// A response with this many header values, and then this many trailers.
 fn reply(alloc: Global, count: u64, trailers: u64) -> Got<Reply> {
-    let headers = headers(alloc, count)?;
+    let headers = many(alloc, count)?;
     let mut body = List::new(alloc);
     body.push(BodyItem::Pending)?;
-    body.push(BodyItem::Trailers(self::headers(alloc, trailers)?))?;
+    body.push(BodyItem::Trailers(many(alloc, trailers)?))?;
     Ok(Reply {
         status: StatusCode::OK,
         headers,
@@ -35,7 +35,7 @@ fn reply(alloc: Global, count: u64, trailers: u64) -> Got<Reply> {
 
 /// A script with this many header values, which is pending once and then answers this response.
 fn script(alloc: Global, count: u64, reply: Option<Reply>) -> Got<Script> {
-    let headers = headers(alloc, count)?;
+    let headers = many(alloc, count)?;
     let mut polls = List::new(alloc);
     polls.push(PollItem {
         then: Then::Pending,
