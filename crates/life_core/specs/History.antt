@@ -35,6 +35,12 @@ said_under f Waits = Waits
 said_under f (Gives h p) = Gives h (f h p)
 said_under f (Fails x) = Fails x
 
+-- the same answer with another head
+abbrev pub said_with : {H G P X : Type 0} → (H → G) → Said H P X → Said G P X
+said_with f Waits = Waits
+said_with f (Gives h p) = Gives (f h) p
+said_with f (Fails x) = Fails x
+
 -- what a future answers after these polls, what it records, and what abandoning it records
 pub record FutureHistory (H P X : Type 0) : Type 0 where
   pub says : List ℕ → ℕ → Said H P X

@@ -1,7 +1,10 @@
 pub mod Causes
 pub mod Due
 pub mod Fields
+pub mod Header
 pub mod History
+pub mod Layered
+pub mod Lending
 pub mod Listed
 pub mod Meaning
 pub mod Memory

@@ -3,12 +3,15 @@
 #![tactic(auto)]
 
 mod body;
+mod builder;
 mod clock;
 mod context;
 mod event;
 mod fields;
 mod future;
+mod header;
 mod latency;
+mod layer;
 mod list;
 mod log;
 mod memory;
@@ -17,18 +20,22 @@ mod outside;
 mod poll;
 mod recorder;
 mod service;
+mod slot;
 mod span;
 mod spend;
 mod text;
 mod twin;
 
 pub use body::{Body, BodyError, DefaultBody};
+pub use builder::ServiceBuilder;
 pub use clock::{Timer, since};
 pub use context::Cx;
 pub use event::{DropKind, Event, Events};
 pub use fields::{Field, Fields, Shown};
 pub use future::Future;
+pub use header::{first_value, put_value};
 pub use latency::{Latency, LatencyUnit};
+pub use layer::{Identity, Layer, Stack};
 pub use list::List;
 pub use log::Log;
 pub use memory::{Calls, MemorySink, MemorySource};
@@ -37,6 +44,7 @@ pub use outside::{Failed, Sink, Source};
 pub use poll::Poll;
 pub use recorder::{NoMemory, Recorder};
 pub use service::Service;
+pub use slot::Slot;
 pub use span::Span;
 pub use spend::{Sound, Spend};
 pub use text::{Octets, Text};

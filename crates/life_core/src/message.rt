@@ -28,6 +28,9 @@ pub struct Request<B, X> {
 }
 
 impl<B, X> Request<B, X> {
+    ghost use Rattle.std.specs.Borrow.{sem};
+    ghost use Rattle.life_core.specs.Lending.{LendsMethod, LendsUri, LendsVersion, LendsRequestHeaders, LendsRequestExt, LendsRequestBody};
+
     /// GET `/` in HTTP/1.1, with no headers.
     pub fn new(alloc: Global, body: B, ext: X) -> Request<B, X>
         ensures parts { IsNewRequestHead result.head.parts }
@@ -99,6 +102,63 @@ impl<B, X> Request<B, X> {
     {
         &self.body
     }
+
+    /// The method, to be changed.
+    pub fn method_mut(&mut self) -> &mut Method
+        ensures* writes_back { sem 𝓛 (LendsMethod B.row X.row self.entry result) }
+        ensures value { result.now ≡ self.old.head.parts.method }
+    {
+        let head = &mut self.head;
+        let parts = &mut head.parts;
+        &mut parts.method
+    }
+
+    /// The target, to be changed.
+    pub fn uri_mut(&mut self) -> &mut Uri
+        ensures* writes_back { sem 𝓛 (LendsUri B.row X.row self.entry result) }
+        ensures value { result.now ≡ self.old.head.parts.uri }
+    {
+        let head = &mut self.head;
+        let parts = &mut head.parts;
+        &mut parts.uri
+    }
+
+    /// The version, to be changed.
+    pub fn version_mut(&mut self) -> &mut Version
+        ensures* writes_back { sem 𝓛 (LendsVersion B.row X.row self.entry result) }
+        ensures value { result.now ≡ self.old.head.parts.version }
+    {
+        let head = &mut self.head;
+        let parts = &mut head.parts;
+        &mut parts.version
+    }
+
+    /// The header fields, to be changed.
+    pub fn headers_mut(&mut self) -> &mut HeaderMap<HeaderValue>
+        ensures* writes_back { sem 𝓛 (LendsRequestHeaders B.row X.row self.entry result) }
+        ensures value { result.now ≡ self.old.head.parts.headers }
+    {
+        let head = &mut self.head;
+        let parts = &mut head.parts;
+        &mut parts.headers
+    }
+
+    /// The extension, to be changed.
+    pub fn ext_mut(&mut self) -> &mut X
+        ensures* writes_back { sem 𝓛 (LendsRequestExt B.row X.row self.entry result) }
+        ensures value { result.now ≡ self.old.head.ext }
+    {
+        let head = &mut self.head;
+        &mut head.ext
+    }
+
+    /// The body, to be changed.
+    pub fn body_mut(&mut self) -> &mut B
+        ensures* writes_back { sem 𝓛 (LendsRequestBody B.row X.row self.entry result) }
+        ensures value { result.now ≡ self.old.body }
+    {
+        &mut self.body
+    }
 }
 
 /// Gives up a request that no one will serve, for want of memory: its body is abandoned.
@@ -152,6 +212,9 @@ pub struct Response<B, X> {
 }
 
 impl<B, X> Response<B, X> {
+    ghost use Rattle.std.specs.Borrow.{sem};
+    ghost use Rattle.life_core.specs.Lending.{LendsStatus, LendsResponseHeaders, LendsResponseExt, LendsResponseBody};
+
     /// Status 200 in HTTP/1.1, with no headers.
     pub fn new(alloc: Global, body: B, ext: X) -> Response<B, X>
         ensures parts { IsNewResponseHead result.head.parts }
@@ -208,5 +271,42 @@ impl<B, X> Response<B, X> {
         ensures { result.now ≡ self.now.body }
     {
         &self.body
+    }
+
+    /// The status, to be changed.
+    pub fn status_mut(&mut self) -> &mut StatusCode
+        ensures* writes_back { sem 𝓛 (LendsStatus B.row X.row self.entry result) }
+        ensures value { result.now ≡ self.old.head.parts.status }
+    {
+        let head = &mut self.head;
+        let parts = &mut head.parts;
+        &mut parts.status
+    }
+
+    /// The header fields, to be changed.
+    pub fn headers_mut(&mut self) -> &mut HeaderMap<HeaderValue>
+        ensures* writes_back { sem 𝓛 (LendsResponseHeaders B.row X.row self.entry result) }
+        ensures value { result.now ≡ self.old.head.parts.headers }
+    {
+        let head = &mut self.head;
+        let parts = &mut head.parts;
+        &mut parts.headers
+    }
+
+    /// The extension, to be changed.
+    pub fn ext_mut(&mut self) -> &mut X
+        ensures* writes_back { sem 𝓛 (LendsResponseExt B.row X.row self.entry result) }
+        ensures value { result.now ≡ self.old.head.ext }
+    {
+        let head = &mut self.head;
+        &mut head.ext
+    }
+
+    /// The body, to be changed.
+    pub fn body_mut(&mut self) -> &mut B
+        ensures* writes_back { sem 𝓛 (LendsResponseBody B.row X.row self.entry result) }
+        ensures value { result.now ≡ self.old.body }
+    {
+        &mut self.body
     }
 }

@@ -1,8 +1,8 @@
 //! Each public call once, with ample memory.
-ghost use Rattle.std.specs.Prelude.{⊤};
+ghost use Rattle.std.specs.Prelude.{⊤, Some, refl};
 
 use super::*;
-use http::{HeaderMap, HeaderName, HeaderValue, StatusCode, Version};
+use http::{HeaderMap, HeaderName, HeaderValue, Method, StatusCode, Uri, Version};
 use std::alloc::Global;
 use std::process::Abort;
 use std::test::Fail;
@@ -251,4 +251,126 @@ fn fields_are_sorted(rt: HostRuntime) -> Result<(), Fail> {
     );
     assert_eq!(rt; Fields::none(alloc).as_slice().len(), 0);
     Ok(())
+}
+
+#[test]
+fn requests_changed(rt: HostRuntime) {
+    let alloc = rt.alloc();
+    let mut request = Request::new(alloc, Nothing, 5u64);
+    *request.method_mut() = Method::POST;
+    *request.version_mut() = Version::HTTP_10;
+    *request.ext_mut() = 6;
+    assert_eq!(rt; request.method().as_str(), "POST");
+    assert!(rt; request.version() == Version::HTTP_10);
+    assert_eq!(rt; *request.ext(), 6);
+    assert!(rt; request.headers_mut().is_empty());
+    assert_eq!(rt; request.uri_mut().path(), "/");
+    let Nothing = request.body_mut();
+    let (head, Nothing) = request.into_parts();
+    drop(head);
+}
+
+#[test]
+fn responses_changed(rt: HostRuntime) {
+    let mut response = Response::new(rt.alloc(), Nothing, 5u64);
+    *response.status_mut() = StatusCode::NOT_FOUND;
+    *response.ext_mut() = 6;
+    assert_eq!(rt; response.status().as_u16(), 404);
+    assert_eq!(rt; *response.ext(), 6);
+    assert!(rt; response.headers_mut().is_empty());
+    let Nothing = response.body_mut();
+    let (head, Nothing) = response.into_parts();
+    drop(head);
+}
+
+#[test]
+fn header_values(rt: HostRuntime) -> Result<(), Fail> {
+    let alloc = rt.alloc();
+    let name = HeaderName::from_static("x-id");
+    let mut headers = HeaderMap::new(alloc);
+    let missing = first_value(&headers, &name)?;
+    assert!(rt; missing.is_none());
+    for text in ["a", "b"] {
+        let value = HeaderValue::from_static(text);
+        headers.append(name.twin(alloc)?, value.twin(alloc)?)?;
+    }
+    let first = first_value(&headers, &name)?.ok_or("no value")?;
+    assert_eq!(rt; first.as_bytes(), b"a".as_slice());
+    put_value(&mut headers, &name, HeaderValue::from_static("c"))?;
+    let first = first_value(&headers, &name)?.ok_or("no value")?;
+    assert_eq!(rt; first.as_bytes(), b"c".as_slice());
+    assert_eq!(rt; headers.len(), 1);
+    Ok(())
+}
+
+/// Puts its number before what it is laid round.
+#[derive(Clone, Copy)]
+struct Before(u64);
+
+impl<S> Layer<S> for Before {
+    type Service = (u64, S);
+
+    ghost round = { λ layer inner. (layer.0, inner) };
+
+    fn layer(&self, _alloc: Global, inner: S) -> Got<(u64, S)>
+    where
+        S: Drop,
+    {
+        Ok((self.0, inner))
+    }
+}
+
+impl Twin for Before {
+    fn twin(&self, _alloc: Global) -> Got<Before> {
+        Ok(*self)
+    }
+}
+
+#[test]
+fn first_layer_outermost(rt: HostRuntime) -> Result<(), Fail> {
+    let alloc = rt.alloc();
+    let builder = ServiceBuilder::new().layer(Before(1)).layer(Before(2));
+    let (first, (second, inner)) = builder.twin(alloc)?.service(alloc, 3u64)?;
+    assert_eq!(rt; [first, second, inner], [1, 2, 3]);
+    let stack = Stack::new(Before(1), Before(2)).twin(alloc)?;
+    let (first, (second, inner)) = stack.layer(alloc, 3u64)?;
+    assert_eq!(rt; [first, second, inner], [2, 1, 3]);
+    let alone = Identity::new().twin(alloc)?.layer(alloc, 3u64)?;
+    assert_eq!(rt; alone, 3);
+    Ok(())
+}
+
+/// Two places.
+#[derive(Clone, Copy)]
+struct Places {
+    number: Option<u64>,
+    sign: Option<bool>,
+}
+
+impl Slot<u64> for Places {
+    ghost holds = { λ places. places.number };
+
+    ghost after = { λ places number. record places { number = Some number } };
+
+    ghost set_gives = { λ _ _. refl };
+
+    fn get(&self) -> Option<&u64> {
+        self.number.as_ref()
+    }
+
+    fn set(&mut self, value: u64) {
+        self.number = Some(value);
+    }
+}
+
+#[test]
+fn slots(rt: HostRuntime) {
+    let mut places = Places {
+        number: None,
+        sign: Some(true),
+    };
+    assert!(rt; places.get().is_none());
+    places.set(7);
+    assert_eq!(rt; places.get().copied(), Some(7));
+    assert_eq!(rt; places.sign, Some(true));
 }

@@ -1,4 +1,5 @@
 pub mod CheckLemmas
 pub mod HeaderLemmas
+pub mod HeaderMaps
 pub mod ReadingLemmas
 pub mod ReadingParts

@@ -2,7 +2,7 @@
 use Rattle.std.proofs.Common.{◌≡◌, ℕ, ◌≤◌, List, [], ◌∷◌, ◌++◌, Bool, true, false, Some, None, refl, sym, ap, ◌∙◌, arith, append-nil, append_assoc}
 use Rattle.std.specs.Prelude.{◌||◌}
 use Rattle.life_core.specs.declared.event.DropKind.{DropKind}
-use Rattle.life_script.specs.ScriptView.{ScriptView}
+use Rattle.life_stack.specs.Ident.{Numbered}
 use Rattle.life_script.specs.declared.answer.Answer.{Answer}
 use Rattle.life_script.specs.declared.scenario.Act.TheVariants as act
 use Rattle.life_script.specs.declared.scenario.Limits.{Limits}
@@ -126,12 +126,12 @@ module _ (before : List Own) (t0 : ℕ) (called : called_at before ≡ Some t0) 
   dropped_kept x d e = ap first_drop (after_kept before x t0 called) ∙ first_drop_kept (after_call before) x d e
 
 -- the answers so far
-answers_after_push : (limits : Limits) (script : ScriptView) (before acts : List Own) (x : Own) → answers_after limits script before (acts ++ x ∷ []) ≡ answers_after limits script before acts ++ answer limits script (before ++ acts) x ∷ []
+answers_after_push : (limits : Limits) (script : Numbered) (before acts : List Own) (x : Own) → answers_after limits script before (acts ++ x ∷ []) ≡ answers_after limits script before acts ++ answer limits script (before ++ acts) x ∷ []
 answers_after_push limits script before [] x = ap (λ b. answer limits script b x ∷ []) (sym (append-nil before))
 answers_after_push limits script before (y ∷ acts) x = ap (λ l. answer limits script before y ∷ l)
     (answers_after_push limits script (before ++ y ∷ []) acts x ∙ ap (λ b. answers_after limits script (before ++ y ∷ []) acts ++ answer limits script b x ∷ []) (append_assoc before (y ∷ []) acts))
 
-pub answers_push : (limits : Limits) (script : ScriptView) (before : List Own) (x : Own) → answers limits script (before ++ x ∷ []) ≡ answers limits script before ++ answer limits script before x ∷ []
+pub answers_push : (limits : Limits) (script : Numbered) (before : List Own) (x : Own) → answers limits script (before ++ x ∷ []) ≡ answers limits script before ++ answer limits script before x ∷ []
 answers_push limits script before x = answers_after_push limits script [] before x
 
 or_assoc : (a b c : Bool) → (a || b || c) ≡ (a || (b || c))

@@ -8,7 +8,7 @@ use Rattle.life_core.specs.declared.body.BodyError.{BodyError}
 use Rattle.life_core.specs.declared.body.BodyError.TheVariants.{Elapsed}
 use Rattle.life_core.specs.declared.poll.Poll.{Poll}
 use Rattle.life_core.specs.declared.poll.Poll.TheVariants.{Ready, Pending}
-use Rattle.life_core.specs.History.{Latest, Said, Waits, Gives, Fails}
+use Rattle.life_core.specs.History.{Latest, Said, Waits, Gives, Fails, said_with}
 use Rattle.life_drop.specs.EarlyBody.{is_ending_frame}
 use Rattle.life_drop.specs.Note.{drop_record}
 use Rattle.life_time.specs.Stands.{undue, wrapped}
@@ -16,8 +16,8 @@ use Rattle.life_time.proofs.DeadlineFollows.{undue_all}
 use Rattle.life_core.specs.Due.{due}
 use Rattle.life_core.specs.declared.event.DropKind.TheVariants as drop_kind
 use Rattle.life_core.specs.declared.event.Event.{Event}
+use Rattle.life_stack.specs.Ident.{Numbered, ident}
 use Rattle.life_script.specs.Headers.{map_of}
-use Rattle.life_script.specs.ScriptView.{ScriptView}
 use Rattle.life_script.specs.Views.{ReplyView}
 use Rattle.life_script.specs.declared.answer.Answer.{Answer}
 use Rattle.life_script.specs.declared.answer.Answer.TheVariants as ans
@@ -29,40 +29,21 @@ use Rattle.life_script.specs.declared.scenario.PollItem.{PollItem}
 use Rattle.life_script.specs.declared.scenario.Then.{Then}
 use Rattle.life_script.specs.declared.scenario.Then.TheVariants as then_
 use Rattle.life_stack.specs.Story.{Outcome, Replied, due_reply, head, tells_after, shown_headers, item_answer, body_answer, head_answer, later_answer, by_head, is_ending}
-use Rattle.life_stack.specs.Driven.{Head, item_says, then_says, timed_body_history, future_history}
+use Rattle.life_stack.specs.Driven.{BodyPlan, Head, body_plan, named, item_says, timed_body_history, future_history}
 use Rattle.life_stack.specs.Script.{item_frame}
 use Rattle.life_stack.specs.StandsAt.{BodySaid}
 use Rattle.life_stack.proofs.Heads.{head_of, head_more}
 
 -- what the service says under the timer
-abbrev pub timed_says : Limits → ScriptView → ℕ → ℕ → ℕ → Said Head ReplyView (List ℕ)
-timed_says limits script t0 k t = if due t0 limits.timeout t then Gives (limits.timeout_status, []) (due_reply limits) else item_says (slice_get script.polls k)
+abbrev pub timed_says : Limits → Numbered → ℕ → ℕ → ℕ → Said Head BodyPlan (List ℕ)
+timed_says limits script t0 k t = if due t0 limits.timeout t then Gives (limits.timeout_status, []) (body_plan (due_reply limits)) else said_with (named (ident script)) (item_says (slice_get script.script.polls k))
 
--- a reply comes with its own head
-abbrev pub IsPlain : Said Head ReplyView (List ℕ) → Type 0
-IsPlain Waits = Unit
-IsPlain (Gives head r) = head ≡ (r.status, r.headers)
-IsPlain (Fails x) = Unit
-
-pub timed_plain : (limits : Limits) (script : ScriptView) (t0 k t : ℕ) → IsPlain (timed_says limits script t0 k t)
-timed_plain limits script t0 k t = go (due t0 limits.timeout t) (slice_get script.polls k)
-  where
-    by_then : (x : Then) → IsPlain (then_says x)
-    by_then then_.Pending = tt
-    by_then (then_.Fail error) = tt
-    by_then (then_.Respond r) = refl
-
-    go : (b : Bool) (o : Option PollItem) → IsPlain (if b then Gives (limits.timeout_status, []) (due_reply limits) else item_says o)
-    go true o = refl
-    go false None = tt
-    go false (Some item) = by_then item.then
-
-pub head_said : (limits : Limits) (script : ScriptView) (t0 : ℕ) (ps : List ℕ) (t : ℕ) → head limits script t0 ps ≡ None →
+pub head_said : (limits : Limits) (script : Numbered) (t0 : ℕ) (ps : List ℕ) (t : ℕ) → head limits script t0 ps ≡ None →
     head limits script t0 (ps ++ t ∷ []) ≡ head_of (length ps) (timed_says limits script t0 (length ps) t)
 head_said limits script t0 ps t e = head_more limits script t0 ps t e ∙ go (due t0 limits.timeout t)
   where
-    go : (b : Bool) → (if b then Some (length ps, Replied (due_reply limits)) else head_of (length ps) (item_says (slice_get script.polls (length ps))))
-        ≡ head_of (length ps) (if b then Gives (limits.timeout_status, []) (due_reply limits) else item_says (slice_get script.polls (length ps)))
+    go : (b : Bool) → (if b then Some (length ps, Replied (due_reply limits)) else head_of (length ps) (said_with (named (ident script)) (item_says (slice_get script.script.polls (length ps)))))
+        ≡ head_of (length ps) (if b then Gives (limits.timeout_status, []) (body_plan (due_reply limits)) else said_with (named (ident script)) (item_says (slice_get script.script.polls (length ps))))
     go true = refl
     go false = refl
 
@@ -87,7 +68,7 @@ ending_said (Ready (Some (Ok f))) e a s = ap is_ending s.2
 ending_said (Ready (Some (Err x))) e a s = ap is_ending s
 
 pub body_table : (limits : Limits) (ph : ℕ) (r : ReplyView) (past : List ℕ) (q : ℕ) → Latest q past →
-    BodySaid ((timed_body_history limits (ph, r)).frame past q) ((timed_body_history limits (ph, r)).ends (q ∷ past)) (body_answer limits r ph q (length past))
+    BodySaid ((timed_body_history limits (ph, body_plan r)).frame past q) ((timed_body_history limits (ph, body_plan r)).ends (q ∷ past)) (body_answer limits r ph q (length past))
 body_table limits ph r past q l = go (due ph limits.body_deadline q) refl
   where
     by_item : (o : Option BodyItem) → BodySaid (wrapped (item_frame o)) (tells_after r (suc (length past))) (item_answer r (length past) o)
@@ -108,11 +89,11 @@ no_events : (b : Bool) → ◌≡◌ {A = List Event} (if b then [] else []) []
 no_events true = refl
 no_events false = refl
 
-pub future_events : (limits : Limits) (script : ScriptView) (t0 : ℕ) (past : List ℕ) (t : ℕ) → (future_history limits script t0).events past t ≡ []
+pub future_events : (limits : Limits) (script : Numbered) (t0 : ℕ) (past : List ℕ) (t : ℕ) → (future_history limits script t0).events past t ≡ []
 future_events limits script t0 past t = no_events (due t0 limits.timeout t)
 
-pub frame_events : (limits : Limits) (ph : ℕ) (reply : ReplyView) (past : List ℕ) (q : ℕ) → (timed_body_history limits (ph, reply)).events past q ≡ []
-frame_events limits ph reply past q = no_events (due ph limits.body_deadline q)
+pub frame_events : (limits : Limits) (ph : ℕ) (p : BodyPlan) (past : List ℕ) (q : ℕ) → (timed_body_history limits (ph, p)).events past q ≡ []
+frame_events limits ph p past q = no_events (due ph limits.body_deadline q)
 
-pub future_left : (limits : Limits) (script : ScriptView) (t0 : ℕ) (past : List ℕ) (t : ℕ) → (future_history limits script t0).left past t ≡ drop_record drop_kind.Future (t - t0) ∷ []
+pub future_left : (limits : Limits) (script : Numbered) (t0 : ℕ) (past : List ℕ) (t : ℕ) → (future_history limits script t0).left past t ≡ drop_record drop_kind.Future (t - t0) ∷ []
 future_left limits script t0 past t = refl

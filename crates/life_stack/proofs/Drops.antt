@@ -5,7 +5,7 @@ use Rattle.life_core.specs.Due.{due}
 use Rattle.life_core.specs.declared.event.DropKind.TheVariants as drop_kind
 use Rattle.life_core.specs.declared.event.Event.{Event}
 use Rattle.life_core.specs.declared.event.Event.TheVariants as event
-use Rattle.life_script.specs.ScriptView.{ScriptView}
+use Rattle.life_stack.specs.Ident.{Numbered}
 use Rattle.life_script.specs.Views.{ReplyView}
 use Rattle.life_script.specs.declared.answer.Answer.{Answer}
 use Rattle.life_script.specs.declared.answer.Answer.TheVariants as ans
@@ -32,10 +32,10 @@ called_where_dropped ((t, act.Poll) ∷ acts) e = called_where_dropped acts e
 called_where_dropped ((t, act.Drop) ∷ acts) e = called_where_dropped acts e
 
 -- the early drops of the turns from some act on
-abbrev told_drops : Limits → ScriptView → List Own → List Own → List Event
+abbrev told_drops : Limits → Numbered → List Own → List Own → List Event
 told_drops limits script before acts = flat_map (λ (made : TurnView). dropped_in made.events) (turns_after limits script before acts)
 
-module _ (limits : Limits) (script : ScriptView) where
+module _ (limits : Limits) (script : Numbered) where
   -- after the Drop all is idle
   idle_after : (acts : List Own) (x : Own) (t0 d : ℕ) → called_at acts ≡ Some t0 → dropped_at acts ≡ Some d → answer limits script acts x ≡ ans.Idle
   idle_after acts (t, act.Call) t0 d c e = ap on_call c
@@ -174,7 +174,7 @@ module _ (limits : Limits) (script : ScriptView) where
   records (x ∷ acts) before end m = step x before acts end (called_at before) (dropped_at before) m refl refl (records acts (before ++ x ∷ []) end (marked_step limits script before x m))
 
 -- the records of a story: none, or one at the Drop or at the end
-pub drops_once : (limits : Limits) (script : ScriptView) (acts : List Own) (end : ℕ) → drop_records (story limits script acts end) ≡ drops limits script acts (drop_time (dropped_at acts) end)
+pub drops_once : (limits : Limits) (script : Numbered) (acts : List Own) (end : ℕ) → drop_records (story limits script acts end) ≡ drops limits script acts (drop_time (dropped_at acts) end)
 drops_once limits script acts end = ap (λ es. told_drops limits script [] acts ++ es) (by_drop (dropped_at acts)) ∙ records limits script acts [] end (marked_none limits script)
   where
     by_drop : (o : Option ℕ) → dropped_in (unless_dropped o (drops limits script acts end)) ≡ unless_dropped o (drops limits script acts end)

@@ -3,13 +3,13 @@ use Rattle.std.proofs.Common.{inl, inr, ◌≡◌, ℕ, suc, List, [], ◌∷◌
 use Rattle.std.specs.Prelude.{◌||◌}
 use Rattle.life_core.specs.History.{Said, Waits, Gives, Fails}
 use Rattle.life_core.specs.declared.event.Event.{Event}
-use Rattle.life_script.specs.ScriptView.{ScriptView}
+use Rattle.life_stack.specs.Ident.{Numbered}
 use Rattle.life_script.specs.Views.{ReplyView}
 use Rattle.life_script.specs.declared.answer.Answer.{Answer}
 use Rattle.life_script.specs.declared.answer.Answer.TheVariants as ans
 use Rattle.life_script.specs.declared.scenario.Act.TheVariants as act
 use Rattle.life_script.specs.declared.scenario.Limits.{Limits}
-use Rattle.life_stack.specs.Driven.{Head}
+use Rattle.life_stack.specs.Driven.{BodyPlan, Head}
 use Rattle.life_stack.specs.Own.{Own, called_at, dropped_at, polls, polls_before_drop}
 use Rattle.life_stack.specs.StandsAt.{IsGone}
 use Rattle.life_stack.specs.Story.{Outcome, Replied, Failed, head, by_head, on_poll, answer, answers, is_ending, any_ending, drops_at, drops, unless_dropped, at_end}
@@ -26,7 +26,7 @@ none≢some e = cc
 apart : (r : ReplyView) (error : List ℕ) → Replied r ≡ Failed error → ⊥
 apart r error e = cc
 
-module _ (limits : Limits) (script : ScriptView) where
+module _ (limits : Limits) (script : Numbered) where
   -- where a poll failed, an ending answer was given
   abbrev pub Marked : List Own → Type 0
   Marked before = (t0 h : ℕ) (error : List ℕ) → called_at before ≡ Some t0 → head limits script t0 (polls before) ≡ Some (h, Failed error) → any_ending (answers limits script before) ≡ true
@@ -45,9 +45,9 @@ module _ (limits : Limits) (script : ScriptView) where
   ended_now before x e = pushed before x ∙ ap (λ b. any_ending (answers limits script before) || b) e ∙ or_yes (any_ending (answers limits script before))
 
   -- the failure of a poll stands at its own index
-  own_index : (k h : ℕ) (error : List ℕ) (said : Said Head ReplyView (List ℕ)) → head_of k said ≡ Some (h, Failed error) → h ≡ k
+  own_index : (k h : ℕ) (error : List ℕ) (said : Said Head BodyPlan (List ℕ)) → head_of k said ≡ Some (h, Failed error) → h ≡ k
   own_index k h error Waits e = absurd (none≢some e)
-  own_index k h error (Gives g r) e = absurd (apart r error (ap (λ p. p.1) (some_is e)))
+  own_index k h error (Gives g r) e = absurd (apart _ error (ap (λ p. p.1) (some_is e)))
   own_index k h error (Fails x) e = sym (ap (λ p. p.0) (some_is e))
 
   -- the poll that fails

@@ -4,20 +4,21 @@ use Rattle.std.proofs.Common.{◌≡◌, ℕ, zero, suc, ◌<◌, ◌≤◌, Lis
 use Rattle.std.specs.Prelude.{slice_get, nat_lt, nat_le, if◌then◌else◌}
 use Rattle.std.proofs.lemmas.Bool.{ltb-true, ltb-false, leb-false, lt-ltb, le-leb, lt-leb, cases_Bool}
 use Rattle.life_core.specs.Due.{due}
-use Rattle.life_script.specs.ScriptView.{ScriptView}
+use Rattle.http_header.specs.FieldValue.{FieldValue}
+use Rattle.life_stack.specs.Ident.{Numbered, ident}
 use Rattle.life_script.specs.Views.{ReplyView}
 use Rattle.life_script.specs.declared.scenario.Limits.{Limits}
 use Rattle.life_script.specs.declared.scenario.PollItem.{PollItem}
 use Rattle.life_script.specs.declared.scenario.Then.{Then}
 use Rattle.life_script.specs.declared.scenario.Then.TheVariants as then_
-use Rattle.life_stack.specs.Story.{Outcome, Replied, Failed, next, first_due, later, outcome_in, here_or_later, first_outcome, earlier, counted, due_reply, head}
-use Rattle.life_core.specs.History.{Said, Waits, Gives, Fails}
-use Rattle.life_stack.specs.Driven.{Head, then_says, item_says}
+use Rattle.life_stack.specs.Story.{Outcome, Replied, Failed, replied, next, first_due, later, outcome_in, here_or_later, first_outcome, earlier, counted, due_reply, head}
+use Rattle.life_core.specs.History.{Said, Waits, Gives, Fails, said_with}
+use Rattle.life_stack.specs.Driven.{BodyPlan, Head, named, then_says, item_says}
 
 -- the head that a poll with this index and this answer makes
-abbrev pub head_of : ℕ → Said Head ReplyView (List ℕ) → Option (ℕ × Outcome)
+abbrev pub head_of : ℕ → Said Head BodyPlan (List ℕ) → Option (ℕ × Outcome)
 head_of k Waits = None
-head_of k (Gives head r) = Some (k, Replied r)
+head_of k (Gives head p) = Some (k, Replied (record { status = head.0; headers = head.1; body = p.items; tells = p.tells }))
 head_of k (Fails error) = Some (k, Failed error)
 
 if_none : Option ℕ → Option ℕ → Option ℕ
@@ -74,9 +75,9 @@ counted_earlier_none n (Some k) (Some (r, reply)) late h e = absurd (go (nat_le 
     go false f = some≢none (sym (counted_below n r reply (let one = h k refl in let two = leb-false k r f in omega (arith, one, two))) ∙ sym (ap (λ b. counted n (if b then Some (k, late) else Some (r, reply))) f) ∙ e)
 
 -- no due poll so far, and no item that answers below this index
-pub head_none : (limits : Limits) (script : ScriptView) (t0 : ℕ) (ps : List ℕ) → head limits script t0 ps ≡ None →
-    (first_due t0 limits.timeout ps ≡ None) × (counted (length ps) (first_outcome script.polls) ≡ None)
-head_none limits script t0 ps e = counted_earlier_none (length ps) (first_due t0 limits.timeout ps) (first_outcome script.polls) (Replied (due_reply limits)) (first_due_below t0 limits.timeout ps) e
+pub head_none : (limits : Limits) (script : Numbered) (t0 : ℕ) (ps : List ℕ) → head limits script t0 ps ≡ None →
+    (first_due t0 limits.timeout ps ≡ None) × (counted (length ps) (first_outcome (ident script) script.script.polls) ≡ None)
+head_none limits script t0 ps e = counted_earlier_none (length ps) (first_due t0 limits.timeout ps) (first_outcome (ident script) script.script.polls) (Replied (due_reply limits)) (first_due_below t0 limits.timeout ps) e
 
 counted-later : (m : ℕ) (o : Option (ℕ × Outcome)) → counted (suc m) (later o) ≡ later (counted m o)
 counted-later m None = refl
@@ -90,51 +91,51 @@ later_none : (o : Option (ℕ × Outcome)) → later o ≡ None → o ≡ None
 later_none None e = refl
 later_none (Some (k, r)) e = absurd (some≢none e)
 
-head_of-later : (m : ℕ) (s : Said Head ReplyView (List ℕ)) → later (head_of m s) ≡ head_of (suc m) s
+head_of-later : (m : ℕ) (s : Said Head BodyPlan (List ℕ)) → later (head_of m s) ≡ head_of (suc m) s
 head_of-later m Waits = refl
-head_of-later m (Gives status r) = refl
+head_of-later m (Gives head p) = refl
 head_of-later m (Fails x) = refl
 
 -- what the item at an index says, of a list with this item at its front
-abbrev says_at : ℕ → Then → List PollItem → Said Head ReplyView (List ℕ)
-says_at zero t items = then_says t
-says_at (suc n) t items = item_says (slice_get items n)
+abbrev says_at : FieldValue → ℕ → Then → List PollItem → Said Head BodyPlan (List ℕ)
+says_at id zero t items = said_with (named id) (then_says t)
+says_at id (suc n) t items = said_with (named id) (item_says (slice_get items n))
 
 none_below : (o : Option (ℕ × Outcome)) → counted zero o ≡ None
 none_below None = refl
 none_below (Some (k, r)) = counted_above 0 k r (omega arith)
 
-outcome_step : (n : ℕ) (t : Then) (items : List PollItem) →
-    ((m : ℕ) → counted m (first_outcome items) ≡ None → counted (suc m) (first_outcome items) ≡ head_of m (item_says (slice_get items m))) →
-    counted n (here_or_later (outcome_in t) (first_outcome items)) ≡ None → counted (suc n) (here_or_later (outcome_in t) (first_outcome items)) ≡ head_of n (says_at n t items)
-outcome_step zero then_.Pending items ih e = counted-later zero (first_outcome items) ∙ ap later (none_below (first_outcome items))
-outcome_step (suc n) then_.Pending items ih e =
-    counted-later (suc n) (first_outcome items)
-    ∙ ap later (ih n (later_none _ (sym (counted-later n (first_outcome items)) ∙ e)))
-    ∙ head_of-later n (item_says (slice_get items n))
-outcome_step zero (then_.Fail error) items ih e = counted_below 1 0 (Failed error) (omega arith)
-outcome_step (suc n) (then_.Fail error) items ih e = absurd (some≢none (sym (counted_below (suc n) 0 (Failed error) (omega arith)) ∙ e))
-outcome_step zero (then_.Respond r) items ih e = counted_below 1 0 (Replied r) (omega arith)
-outcome_step (suc n) (then_.Respond r) items ih e = absurd (some≢none (sym (counted_below (suc n) 0 (Replied r) (omega arith)) ∙ e))
+outcome_step : (id : FieldValue) (n : ℕ) (t : Then) (items : List PollItem) →
+    ((m : ℕ) → counted m (first_outcome id items) ≡ None → counted (suc m) (first_outcome id items) ≡ head_of m (said_with (named id) (item_says (slice_get items m)))) →
+    counted n (here_or_later (outcome_in id t) (first_outcome id items)) ≡ None → counted (suc n) (here_or_later (outcome_in id t) (first_outcome id items)) ≡ head_of n (says_at id n t items)
+outcome_step id zero then_.Pending items ih e = counted-later zero (first_outcome id items) ∙ ap later (none_below (first_outcome id items))
+outcome_step id (suc n) then_.Pending items ih e =
+    counted-later (suc n) (first_outcome id items)
+    ∙ ap later (ih n (later_none _ (sym (counted-later n (first_outcome id items)) ∙ e)))
+    ∙ head_of-later n (said_with (named id) (item_says (slice_get items n)))
+outcome_step id zero (then_.Fail error) items ih e = counted_below 1 0 (Failed error) (omega arith)
+outcome_step id (suc n) (then_.Fail error) items ih e = absurd (some≢none (sym (counted_below (suc n) 0 (Failed error) (omega arith)) ∙ e))
+outcome_step id zero (then_.Respond r) items ih e = counted_below 1 0 (Replied (replied id r)) (omega arith)
+outcome_step id (suc n) (then_.Respond r) items ih e = absurd (some≢none (sym (counted_below (suc n) 0 (Replied (replied id r)) (omega arith)) ∙ e))
 
-first_outcome_at : (n : ℕ) (items : List PollItem) → counted n (first_outcome items) ≡ None → counted (suc n) (first_outcome items) ≡ head_of n (item_says (slice_get items n))
-first_outcome_at n [] e = refl
-first_outcome_at zero (item ∷ items) e = outcome_step zero item.then items (λ m. first_outcome_at m items) e
-first_outcome_at (suc n) (item ∷ items) e = outcome_step (suc n) item.then items (λ m. first_outcome_at m items) e
+first_outcome_at : (id : FieldValue) (n : ℕ) (items : List PollItem) → counted n (first_outcome id items) ≡ None → counted (suc n) (first_outcome id items) ≡ head_of n (said_with (named id) (item_says (slice_get items n)))
+first_outcome_at id n [] e = refl
+first_outcome_at id zero (item ∷ items) e = outcome_step id zero item.then items (λ m. first_outcome_at id m items) e
+first_outcome_at id (suc n) (item ∷ items) e = outcome_step id (suc n) item.then items (λ m. first_outcome_at id m items) e
 
 pub length_push : {A : Type 0} (xs : List A) (x : A) → length (xs ++ x ∷ []) ≡ suc (length xs)
 length_push [] x = refl
 length_push (y ∷ xs) x = ap suc (length_push xs x)
 
 -- the first poll that answers, where none did so far
-pub head_more : (limits : Limits) (script : ScriptView) (t0 : ℕ) (ps : List ℕ) (t : ℕ) → head limits script t0 ps ≡ None →
-    head limits script t0 (ps ++ t ∷ []) ≡ (if due t0 limits.timeout t then Some (length ps, Replied (due_reply limits)) else head_of (length ps) (item_says (slice_get script.polls (length ps))))
+pub head_more : (limits : Limits) (script : Numbered) (t0 : ℕ) (ps : List ℕ) (t : ℕ) → head limits script t0 ps ≡ None →
+    head limits script t0 (ps ++ t ∷ []) ≡ (if due t0 limits.timeout t then Some (length ps, Replied (due_reply limits)) else head_of (length ps) (said_with (named (ident script)) (item_says (slice_get script.script.polls (length ps)))))
 unfolding if_none
 head_more limits script t0 ps t e = let was = head_none limits script t0 ps e in
-    rw (length_push ps t, first_due-push t0 limits.timeout ps t, was.0) (go (due t0 limits.timeout t) (first_outcome script.polls) was.1 (first_outcome_at (length ps) script.polls was.1))
+    rw (length_push ps t, first_due-push t0 limits.timeout ps t, was.0) (go (due t0 limits.timeout t) (first_outcome (ident script) script.script.polls) was.1 (first_outcome_at (ident script) (length ps) script.script.polls was.1))
   where
-    go : (b : Bool) (a : Option (ℕ × Outcome)) → counted (length ps) a ≡ None → counted (suc (length ps)) a ≡ head_of (length ps) (item_says (slice_get script.polls (length ps))) →
-        counted (suc (length ps)) (earlier (if b then Some (length ps) else None) a (Replied (due_reply limits))) ≡ (if b then Some (length ps, Replied (due_reply limits)) else head_of (length ps) (item_says (slice_get script.polls (length ps))))
+    go : (b : Bool) (a : Option (ℕ × Outcome)) → counted (length ps) a ≡ None → counted (suc (length ps)) a ≡ head_of (length ps) (said_with (named (ident script)) (item_says (slice_get script.script.polls (length ps)))) →
+        counted (suc (length ps)) (earlier (if b then Some (length ps) else None) a (Replied (due_reply limits))) ≡ (if b then Some (length ps, Replied (due_reply limits)) else head_of (length ps) (said_with (named (ident script)) (item_says (slice_get script.script.polls (length ps)))))
     go false a n f = f
     go true None n f = counted_below (suc (length ps)) (length ps) (Replied (due_reply limits)) (omega arith)
     go true (Some (r, reply)) n f = rw (le-leb (length ps) r (above_of (length ps) r reply n)) (counted_below (suc (length ps)) (length ps) (Replied (due_reply limits)) (omega arith))
@@ -148,21 +149,21 @@ earlier_kept n None None late true x e = absurd (some≢none (sym e))
 earlier_kept n None (Some (r, reply)) late true x e = rw (lt-leb n r (below_of n r reply x e)) (counted_kept n (suc n) (Some (r, reply)) x (omega arith) e)
 
 -- once a poll answered, it stays the first
-pub head_kept : (limits : Limits) (script : ScriptView) (t0 : ℕ) (ps : List ℕ) (t : ℕ) (x : ℕ × Outcome) → head limits script t0 ps ≡ Some x → head limits script t0 (ps ++ t ∷ []) ≡ Some x
+pub head_kept : (limits : Limits) (script : Numbered) (t0 : ℕ) (ps : List ℕ) (t : ℕ) (x : ℕ × Outcome) → head limits script t0 ps ≡ Some x → head limits script t0 (ps ++ t ∷ []) ≡ Some x
 head_kept limits script t0 ps t x e = rw (length_push ps t, first_due-push t0 limits.timeout ps t)
-    (earlier_kept (length ps) (first_due t0 limits.timeout ps) (first_outcome script.polls) (Replied (due_reply limits)) (due t0 limits.timeout t) x e)
+    (earlier_kept (length ps) (first_due t0 limits.timeout ps) (first_outcome (ident script) script.script.polls) (Replied (due_reply limits)) (due t0 limits.timeout t) x e)
 
 -- no poll, no head
 none_counted : (o : Option (ℕ × Outcome)) → counted 0 o ≡ None
 none_counted None = refl
 none_counted (Some (k, r)) = counted_above 0 k r (omega arith)
 
-pub no_head : (limits : Limits) (script : ScriptView) (t0 : ℕ) → head limits script t0 [] ≡ None
-no_head limits script t0 = none_counted (earlier (first_due t0 limits.timeout []) (first_outcome script.polls) (Replied (due_reply limits)))
+pub no_head : (limits : Limits) (script : Numbered) (t0 : ℕ) → head limits script t0 [] ≡ None
+no_head limits script t0 = none_counted (earlier (first_due t0 limits.timeout []) (first_outcome (ident script) script.script.polls) (Replied (due_reply limits)))
 
 -- the head is one of the polls
-pub head_below : (limits : Limits) (script : ScriptView) (t0 : ℕ) (ps : List ℕ) (h : ℕ) (o : Outcome) → head limits script t0 ps ≡ Some (h, o) → h < length ps
-head_below limits script t0 ps h o e = go (earlier (first_due t0 limits.timeout ps) (first_outcome script.polls) (Replied (due_reply limits))) e
+pub head_below : (limits : Limits) (script : Numbered) (t0 : ℕ) (ps : List ℕ) (h : ℕ) (o : Outcome) → head limits script t0 ps ≡ Some (h, o) → h < length ps
+head_below limits script t0 ps h o e = go (earlier (first_due t0 limits.timeout ps) (first_outcome (ident script) script.script.polls) (Replied (due_reply limits))) e
   where
     go : (x : Option (ℕ × Outcome)) → counted (length ps) x ≡ Some (h, o) → h < length ps
     go None e' = absurd (some≢none (sym e'))

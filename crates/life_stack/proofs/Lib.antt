@@ -5,6 +5,7 @@ pub mod Drops
 pub mod Endings
 pub mod Failing
 pub mod Heads
+pub mod Naming
 pub mod Pieces
 pub mod Places
 pub mod ReportLemmas

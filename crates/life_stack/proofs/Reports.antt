@@ -10,12 +10,13 @@ use Rattle.life_script.specs.declared.scenario.Limits.{Limits}
 use Rattle.life_script.specs.declared.scenario.Step.{Step}
 use Rattle.life_stack.proofs.Drops.{drops_once}
 use Rattle.life_stack.specs.Drive.{report_of, stories}
+use Rattle.life_stack.specs.Ident.{Numbered, numbered}
 use Rattle.life_stack.specs.Own.{Own, own, dropped_at, drop_time}
 use Rattle.life_stack.specs.ReportView.{Fits, steps_of}
 use Rattle.life_stack.specs.Story.{story, turns_after, drops, drop_records}
 
 -- each act has a turn
-turns_count : (limits : Limits) (script : ScriptView) (before acts : List Own) → length (turns_after limits script before acts) ≡ length acts
+turns_count : (limits : Limits) (script : Numbered) (before acts : List Own) → length (turns_after limits script before acts) ≡ length acts
 turns_count limits script before [] = refl
 turns_count limits script before (x ∷ acts) = ap suc (turns_count limits script (before ++ x ∷ []) acts)
 
@@ -34,14 +35,14 @@ stories_count limits (script ∷ scripts) i steps end = ap suc (stories_count li
 
 -- each request is told by its own steps
 pub story_at : (limits : Limits) (scripts : List ScriptView) (i j : ℕ) (steps : List Step) (end : ℕ) (script : ScriptView) → slice_get scripts j ≡ Some script →
-    slice_get (stories limits scripts i steps end) j ≡ Some (story limits script (own steps (i + j)) end)
+    slice_get (stories limits scripts i steps end) j ≡ Some (story limits (numbered (i + j) script) (own steps (i + j)) end)
 story_at limits [] i j steps end script is = absurd (cc)
 story_at limits (s ∷ scripts) i zero steps end script is =
     let same : s ≡ script = cc in let here : i + 0 ≡ i = omega arith in
-    ap (λ (z : ScriptView). Some (story limits z (own steps i) end)) same ∙ ap (λ (n : ℕ). Some (story limits script (own steps n) end)) (sym here)
+    ap (λ (z : ScriptView). Some (story limits (numbered i z) (own steps i) end)) same ∙ ap (λ (n : ℕ). Some (story limits (numbered n script) (own steps n) end)) (sym here)
 story_at limits (s ∷ scripts) i (suc j) steps end script is =
     let next : suc i + j ≡ i + suc j = omega arith in
-    story_at limits scripts (suc i) j steps end script is ∙ ap (λ (n : ℕ). Some (story limits script (own steps n) end)) next
+    story_at limits scripts (suc i) j steps end script is ∙ ap (λ (n : ℕ). Some (story limits (numbered n script) (own steps n) end)) next
 
 -- a script of a number, where one is told of
 script_at : (limits : Limits) (scripts : List ScriptView) (i j : ℕ) (steps : List Step) (end : ℕ) (t : ToldView) → slice_get (stories limits scripts i steps end) j ≡ Some t →
@@ -55,8 +56,8 @@ told_one a b o p q = cc
 
 -- the same from the first request on
 pub story_of : (limits : Limits) (s : ScenarioView) (i : ℕ) (script : ScriptView) → slice_get s.requests i ≡ Some script →
-    slice_get (report_of limits s).told i ≡ Some (story limits script (own s.steps i) s.end)
-story_of limits s i script is = let here : 0 + i ≡ i = omega arith in story_at limits s.requests 0 i s.steps s.end script is ∙ ap (λ (n : ℕ). Some (story limits script (own s.steps n) s.end)) here
+    slice_get (report_of limits s).told i ≡ Some (story limits (numbered i script) (own s.steps i) s.end)
+story_of limits s i script is = let here : 0 + i ≡ i = omega arith in story_at limits s.requests 0 i s.steps s.end script is ∙ ap (λ (n : ℕ). Some (story limits (numbered n script) (own s.steps n) s.end)) here
 
 pub report_fits : (limits : Limits) (s : ScenarioView) → IsValid s → Fits (report_of limits s).told s.steps
 report_fits limits s valid = record {
@@ -64,11 +65,11 @@ report_fits limits s valid = record {
   turns = λ i t is.
       let found = script_at limits s.requests 0 i s.steps s.end t is in
       let same = told_one _ t _ (story_of limits s i found.0 found.1) is in
-      ap (λ (x : ToldView). length x.turns) (sym same) ∙ turns_count limits found.0 [] (own s.steps i) ∙ own_count s.steps i;
+      ap (λ (x : ToldView). length x.turns) (sym same) ∙ turns_count limits (numbered i found.0) [] (own s.steps i) ∙ own_count s.steps i;
 }
 
 -- each request has the early drops of the table
 pub report_drops : (limits : Limits) (s : ScenarioView) (i : ℕ) (script : ScriptView) (t : ToldView) → slice_get s.requests i ≡ Some script → slice_get (report_of limits s).told i ≡ Some t →
-    drop_records t ≡ drops limits script (own s.steps i) (drop_time (dropped_at (own s.steps i)) s.end)
+    drop_records t ≡ drops limits (numbered i script) (own s.steps i) (drop_time (dropped_at (own s.steps i)) s.end)
 report_drops limits s i script t here is =
-    ap drop_records (told_one t _ _ is (story_of limits s i script here)) ∙ drops_once limits script (own s.steps i) s.end
+    ap drop_records (told_one t _ _ is (story_of limits s i script here)) ∙ drops_once limits (numbered i script) (own s.steps i) s.end

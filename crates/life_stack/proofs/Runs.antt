@@ -4,7 +4,7 @@ use Rattle.std.proofs.lemmas.Bool.{eq-eqb, ne_eqb}
 use Rattle.std.specs.Prelude.{slice_get, if◌then◌else◌, ◌==◌}
 use Rattle.life_core.specs.Recorded.{Recorded}
 use Rattle.life_core.specs.declared.event.Event.{Event}
-use Rattle.life_script.specs.ScriptView.{ScriptView}
+use Rattle.life_stack.specs.Ident.{Numbered}
 use Rattle.life_script.specs.ToldView.{TurnView}
 use Rattle.life_script.specs.declared.answer.Answer.{Answer}
 use Rattle.life_script.specs.declared.scenario.Limits.{Limits}
@@ -61,13 +61,13 @@ own_other (x ∷ steps) zero r s e q =
 own_other (x ∷ steps) (suc i) r s e q = own_left (x.request == r) (x.at, x.act) (own (take i steps) r) (own (take (suc i) steps) r) (own_other steps i r s e q)
 
 -- The turns.
-turns_after_push : (limits : Limits) (script : ScriptView) (before acts : List Own) (x : Own) → turns_after limits script before (acts ++ x ∷ []) ≡ turns_after limits script before acts ++ turn limits script (before ++ acts) x ∷ []
+turns_after_push : (limits : Limits) (script : Numbered) (before acts : List Own) (x : Own) → turns_after limits script before (acts ++ x ∷ []) ≡ turns_after limits script before acts ++ turn limits script (before ++ acts) x ∷ []
 turns_after_push limits script before [] x = ap (λ b. turn limits script b x ∷ []) (sym (append-nil before))
 turns_after_push limits script before (y ∷ acts) x = ap (λ l. turn limits script before y ∷ l)
     (turns_after_push limits script (before ++ y ∷ []) acts x ∙ ap (λ b. turns_after limits script (before ++ y ∷ []) acts ++ turn limits script b x ∷ []) (append_assoc before (y ∷ []) acts))
 
 -- a shown act over an empty log is the table's turn
-pub turned : (limits : Limits) (script : ScriptView) (acts : List Own) (x : Own) (was now : Recorded) (l : Live) (a : Answer) (events : List Event) → was.log ≡ [] → events ≡ now.log →
+pub turned : (limits : Limits) (script : Numbered) (acts : List Own) (x : Own) (was now : Recorded) (l : Live) (a : Answer) (events : List Event) → was.log ≡ [] → events ≡ now.log →
     Shown limits script acts x was (l, a) now → Turned limits script acts x (l, record { answer = a; events = events })
 turned limits script acts x was now l a events empty is s = record {
   live = s.live;
@@ -76,13 +76,13 @@ turned limits script acts x was now l a events empty is s = record {
 }
 
 -- the turns with one more are those of the longer list
-pub turns_more : (limits : Limits) (script : ScriptView) (acts : List Own) (x : Own) (t : TurnView) (turns after : List TurnView) → turns ≡ turns_after limits script [] acts → t ≡ turn limits script acts x →
+pub turns_more : (limits : Limits) (script : Numbered) (acts : List Own) (x : Own) (t : TurnView) (turns after : List TurnView) → turns ≡ turns_after limits script [] acts → t ≡ turn limits script acts x →
     after ≡ turns ++ t ∷ [] → after ≡ turns_after limits script [] (acts ++ x ∷ [])
 turns_more limits script acts x t turns after are is e =
     e ∙ ap (λ g. g ++ t ∷ []) are ∙ ap (λ a. turns_after limits script [] acts ++ a ∷ []) is ∙ sym (turns_after_push limits script [] acts x)
 
 -- a request that was not called stands at no acts
-pub begun_exchange : (limits : Limits) (script : ScriptView) (left : ℕ) (e : Exchange) → IsFresh left e → ExchangeAt limits script [] left e
+pub begun_exchange : (limits : Limits) (script : Numbered) (left : ℕ) (e : Exchange) → IsFresh left e → ExchangeAt limits script [] left e
 begun_exchange limits script left e f = record {
   live = subst (LiveAt limits script []) (sym f.live_is) (record { uncalled = refl; no_ending = refl; kind = refl });
   may = subst MayGoOn (sym f.live_is) tt;
@@ -93,7 +93,7 @@ begun_exchange limits script left e f = record {
 }
 
 -- what is told after all steps and at the end is the story
-pub told_is : (limits : Limits) (script : ScriptView) (acts : List Own) (end : ℕ) (turns : List TurnView) (was now events : List Event) → turns ≡ turns_after limits script [] acts → was ≡ [] →
+pub told_is : (limits : Limits) (script : Numbered) (acts : List Own) (end : ℕ) (turns : List TurnView) (was now events : List Event) → turns ≡ turns_after limits script [] acts → was ≡ [] →
     now ≡ was ++ at_end limits script acts end → events ≡ now → record { turns = turns; at_end = events } ≡ story limits script acts end
 told_is limits script acts end turns was now events are empty e f =
     ap (λ t. record { turns = t; at_end = events }) are

@@ -17,6 +17,7 @@ use Rattle.life_script.specs.declared.scenario.Step.{Step}
 use Rattle.life_stack.specs.Drive.{stories}
 use Rattle.life_stack.specs.Driven.{DriveStack, StackMay, StackStands}
 use Rattle.life_stack.specs.Exchanged.{ExchangeAt, IsFresh}
+use Rattle.life_stack.specs.Ident.{Numbered, numbered}
 use Rattle.life_stack.specs.LiveAt.{MayGoOn}
 use Rattle.life_stack.specs.Own.{NotBefore, own}
 use Rattle.life_stack.specs.ReportView.{steps_of}
@@ -70,7 +71,7 @@ no_script = record { headers = []; polls = [] }
 
 -- where an exchange stands
 pub session_at : (v : SessionView) → IsSession v → (i : ℕ) (e : Exchange) → slice_get v.exchanges i ≡ Some e →
-    (script : ScriptView) × (slice_get v.scenario.requests i ≡ Some script) × ExchangeAt v.limits script (acts_done v i) (turns_left v i) e
+    (script : ScriptView) × (slice_get v.scenario.requests i ≡ Some script) × ExchangeAt v.limits (numbered i script) (acts_done v i) (turns_left v i) e
 session_at v s i e is =
     let within = slice_get_within v.exchanges i e is in
     let count = s.count in
@@ -99,53 +100,55 @@ session_order v s x is i = not_before_own v.scenario.steps v.done i x.at (λ j y
 
 module _ (v : SessionView) (s : IsSession v) (x : Step) (is : slice_get v.scenario.steps v.done ≡ Some x) where
   -- the exchange of the step's request
-  moved : (script : ScriptView) (before after : Exchange) → slice_get v.scenario.requests x.request ≡ Some script → slice_get v.exchanges x.request ≡ Some before → MovesOn v.stack x before after →
-      ExchangeAt v.limits script (own (take (v.done + 1) v.scenario.steps) x.request) (steps_of x.request (drop (v.done + 1) v.scenario.steps)) after
+  moved : (script : ScriptView) (before after : Exchange) → slice_get v.scenario.requests x.request ≡ Some script → slice_get v.exchanges x.request ≡ Some before → MovesOn v.stack x script before after →
+      ExchangeAt v.limits (numbered x.request script) (own (take (v.done + 1) v.scenario.steps) x.request) (steps_of x.request (drop (v.done + 1) v.scenario.steps)) after
   moved script before after there here m =
       let one = left_here v.scenario.steps v.done x.request x is refl in
-      let old = subst (λ n. ExchangeAt v.limits script (acts_done v x.request) n before) one (s.each x.request script before there here) in
-      let new = m v.limits script (acts_done v x.request) _ old (s.stack x.request script there) (session_order v s x is x.request) in
+      let old = subst (λ n. ExchangeAt v.limits (numbered x.request script) (acts_done v x.request) n before) one (s.each x.request script before there here) in
+      let new = m v.limits (acts_done v x.request) _ old (s.stack x.request script there) (session_order v s x is x.request) in
       rw (add-one, own_more v.scenario.steps v.done x.request x is refl) new
 
   -- the exchange of another one
   kept : (i : ℕ) (script : ScriptView) (e : Exchange) → x.request ≢ i → slice_get v.scenario.requests i ≡ Some script → slice_get v.exchanges i ≡ Some e →
-      ExchangeAt v.limits script (own (take (v.done + 1) v.scenario.steps) i) (steps_of i (drop (v.done + 1) v.scenario.steps)) e
+      ExchangeAt v.limits (numbered i script) (own (take (v.done + 1) v.scenario.steps) i) (steps_of i (drop (v.done + 1) v.scenario.steps)) e
   kept i script e n there here =
-      let old = subst (λ n. ExchangeAt v.limits script (acts_done v i) n e) (left_other v.scenario.steps v.done i x is n) (s.each i script e there here) in
+      let old = subst (λ n. ExchangeAt v.limits (numbered i script) (acts_done v i) n e) (left_other v.scenario.steps v.done i x is n) (s.each i script e there here) in
       rw (add-one, own_other v.scenario.steps v.done i x is n) old
 
-  each_next : (exchanges : List Exchange) → RunsOn v.stack x v.exchanges (Ok tt) exchanges → (i : ℕ) (script : ScriptView) (e : Exchange) → slice_get v.scenario.requests i ≡ Some script → slice_get exchanges i ≡ Some e →
-      ExchangeAt v.limits script (own (take (v.done + 1) v.scenario.steps) i) (steps_of i (drop (v.done + 1) v.scenario.steps)) e
+  each_next : (exchanges : List Exchange) → RunsOn v.stack x v.scenario.requests v.exchanges (Ok tt) exchanges → (i : ℕ) (script : ScriptView) (e : Exchange) → slice_get v.scenario.requests i ≡ Some script → slice_get exchanges i ≡ Some e →
+      ExchangeAt v.limits (numbered i script) (own (take (v.done + 1) v.scenario.steps) i) (steps_of i (drop (v.done + 1) v.scenario.steps)) e
   each_next exchanges r i script e there here =
       elim (eqb_tells x.request i) [
         | inl q ↦
             let within = session_within v s x is in
             let found : slice_get exchanges x.request ≡ Some r.1 = ap (λ l. slice_get l x.request) r.3 ∙ set_here v.exchanges x.request r.1 within in
             let same : r.1 ≡ e = some_is (sym found ∙ (ap (λ j. slice_get exchanges j) q.1 ∙ here)) in
-            subst (λ j. ExchangeAt v.limits script (own (take (v.done + 1) v.scenario.steps) j) (steps_of j (drop (v.done + 1) v.scenario.steps)) e) q.1
-            (subst (λ z. ExchangeAt v.limits script (own (take (v.done + 1) v.scenario.steps) x.request) (steps_of x.request (drop (v.done + 1) v.scenario.steps)) z) same
-            (moved script r.0 r.1 (ap (λ j. slice_get v.scenario.requests j) q.1 ∙ there) r.2 r.4))
+            subst (λ j. ExchangeAt v.limits (numbered j script) (own (take (v.done + 1) v.scenario.steps) j) (steps_of j (drop (v.done + 1) v.scenario.steps)) e) q.1
+            (subst (λ z. ExchangeAt v.limits (numbered x.request script) (own (take (v.done + 1) v.scenario.steps) x.request) (steps_of x.request (drop (v.done + 1) v.scenario.steps)) z) same
+            (moved script r.0 r.1 (ap (λ j. slice_get v.scenario.requests j) q.1 ∙ there) r.2 (r.4 script (ap (λ j. slice_get v.scenario.requests j) q.1 ∙ there))))
         | inr q ↦
             kept i script e q.1 there (sym (ap (λ l. slice_get l i) r.3 ∙ set_elsewhere v.exchanges x.request i r.1 (λ z. q.1 (sym z))) ∙ here)
       ]
 
-  pub session_next : (stack : DriveStack) (exchanges : List Exchange) → StackMay stack → ((limits : Limits) (script : ScriptView) (i : ℕ) → StackStands limits script i v.stack → StackStands limits script i stack) →
-      RunsOn v.stack x v.exchanges (Ok tt) exchanges → IsSession (record { limits = v.limits; scenario = v.scenario; done = v.done + 1; stack = stack; exchanges = exchanges })
-  session_next stack exchanges may stays r =
+  pub session_next : (stack : DriveStack) (exchanges : List Exchange) → StackMay stack → ((limits : Limits) (script : Numbered) → StackStands limits script v.stack → StackStands limits script stack) →
+      (scripts : List ScriptView) → scripts ≡ v.scenario.requests → RunsOn v.stack x scripts v.exchanges (Ok tt) exchanges →
+      IsSession (record { limits = v.limits; scenario = v.scenario; done = v.done + 1; stack = stack; exchanges = exchanges })
+  session_next stack exchanges may stays scripts all ran =
+      let r = subst (λ (l : List ScriptView). RunsOn v.stack x l v.exchanges (Ok tt) exchanges) all ran in
       let within = slice_get_within v.scenario.steps v.done x is in
       record {
         valid = s.valid;
         within = omega (arith, within);
         count = ap length r.3 ∙ set_length v.exchanges x.request r.1 ∙ s.count;
         may = may;
-        stack = λ i script there. stays v.limits script i (s.stack i script there);
+        stack = λ i script there. stays v.limits (numbered i script) (s.stack i script there);
         each = each_next exchanges r;
       }
 
 -- The begin.
 
 pub session_begun : (limits : Limits) (scenario : ScenarioView) (stack : DriveStack) (counts : List ℕ) (exchanges : List Exchange) → IsValid scenario → StackMay stack →
-    ((script : ScriptView) (i : ℕ) → slice_get scenario.requests i ≡ Some script → StackStands limits script i stack) → Counts (length scenario.requests) scenario.steps counts → AllZip IsFresh counts exchanges →
+    ((script : ScriptView) (i : ℕ) → slice_get scenario.requests i ≡ Some script → StackStands limits (numbered i script) stack) → Counts (length scenario.requests) scenario.steps counts → AllZip IsFresh counts exchanges →
     IsSession (record { limits = limits; scenario = scenario; done = 0; stack = stack; exchanges = exchanges })
 session_begun limits scenario stack counts exchanges valid may stands c fresh = record {
   valid = valid;
@@ -156,13 +159,13 @@ session_begun limits scenario stack counts exchanges valid may stands c fresh = 
   each = λ i script e there here.
       let within = slice_get_within scenario.requests i script there in
       let f = zip_at IsFresh counts exchanges i 0 e fresh here in
-      begun_exchange limits script (steps_of i scenario.steps) e (subst (λ n. IsFresh n e) (c.counted i within) f);
+      begun_exchange limits (numbered i script) (steps_of i scenario.steps) e (subst (λ n. IsFresh n e) (c.counted i within) f);
 }
 
 -- The end.
 
 pub told_are : (limits : Limits) (scripts : List ScriptView) (i : ℕ) (steps : List Step) (left : ℕ → ℕ) (end : ℕ) (exchanges : List Exchange) (told : List ToldView) → length exchanges ≡ length scripts →
-    ((j : ℕ) (script : ScriptView) (e : Exchange) → slice_get scripts j ≡ Some script → slice_get exchanges j ≡ Some e → ExchangeAt limits script (own steps (i + j)) (left (i + j)) e) →
+    ((j : ℕ) (script : ScriptView) (e : Exchange) → slice_get scripts j ≡ Some script → slice_get exchanges j ≡ Some e → ExchangeAt limits (numbered (i + j) script) (own steps (i + j)) (left (i + j)) e) →
     AllZip (Tells end) exchanges told → told ≡ stories limits scripts i steps end
 told_are limits [] i steps left end [] [] n each z = refl
 told_are limits [] i steps left end (e ∷ es) told n each z = absurd (omega (arith, n))
@@ -171,10 +174,10 @@ told_are limits [] i steps left end [] (t ∷ ts) n each z = absurd z
 told_are limits (s ∷ ss) i steps left end (e ∷ es) [] n each z = absurd z
 told_are limits (s ∷ ss) i steps left end (e ∷ es) (t ∷ ts) n each z =
     let zero_more : i + 0 ≡ i = omega arith in
-    let first : t ≡ story limits s (own steps i) end = z.0 limits s (own steps i) (left i) (subst (λ k. ExchangeAt limits s (own steps k) (left k) e) zero_more (each 0 s e refl refl)) in
+    let first : t ≡ story limits (numbered i s) (own steps i) end = z.0 limits (numbered i s) (own steps i) (left i) (subst (λ k. ExchangeAt limits (numbered k s) (own steps k) (left k) e) zero_more (each 0 s e refl refl)) in
     let rest : ts ≡ stories limits ss (suc i) steps end = told_are limits ss (suc i) steps left end es ts (omega (arith, n))
-    (λ j script x there here. let next : i + suc j ≡ suc i + j = omega arith in subst (λ k. ExchangeAt limits script (own steps k) (left k) x) next (each (suc j) script x there here)) z.1 in
-    ap (λ (a : ToldView). a ∷ ts) first ∙ ap (λ (l : List ToldView). story limits s (own steps i) end ∷ l) rest
+    (λ j script x there here. let next : i + suc j ≡ suc i + j = omega arith in subst (λ k. ExchangeAt limits (numbered k script) (own steps k) (left k) x) next (each (suc j) script x there here)) z.1 in
+    ap (λ (a : ToldView). a ∷ ts) first ∙ ap (λ (l : List ToldView). story limits (numbered i s) (own steps i) end ∷ l) rest
 
 -- after all steps each request is told by its story
 pub session_told : (v : SessionView) → IsSession v → (told : List ToldView) → v.done ≡ length v.scenario.steps → AllZip (Tells v.scenario.end) v.exchanges told →

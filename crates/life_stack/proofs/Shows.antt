@@ -5,8 +5,8 @@ use Rattle.http_body.specs.declared.frame.Frame.{Frame}
 use Rattle.life_core.specs.Recorded.{Recorded}
 use Rattle.life_core.specs.History.{Grew}
 use Rattle.life_core.specs.declared.poll.Poll.TheVariants.{Ready}
+use Rattle.life_stack.specs.Ident.{Numbered}
 use Rattle.life_script.specs.declared.answer.Seen.{Seen}
-use Rattle.life_script.specs.ScriptView.{ScriptView}
 use Rattle.life_script.specs.declared.answer.Answer.TheVariants as ans
 use Rattle.life_script.specs.declared.scenario.Act.TheVariants as act
 use Rattle.life_script.specs.declared.scenario.Limits.{Limits}
@@ -22,7 +22,7 @@ use Rattle.life_stack.proofs.Answering.{answer_above_head}
 use Rattle.life_stack.proofs.Heads.{head_below, head_kept}
 use Rattle.life_stack.proofs.Steps.{any_next, kind_next, or_no}
 
-module _ (limits : Limits) (script : ScriptView) (before : List Own) where
+module _ (limits : Limits) (script : Numbered) (before : List Own) where
   -- a Drop changes nothing in the early drop of a time
   drops_pushed : (t d t0 : ℕ) → called_at before ≡ Some t0 → answer limits script before (t, act.Drop) ≡ ans.Dropped → drops limits script (before ++ (t, act.Drop) ∷ []) d ≡ drops limits script before d
   drops_pushed t d t0 c a =

@@ -20,7 +20,7 @@ use Rattle.life_drop.specs.Stands.{ended, unless_ended}
 use Rattle.life_core.specs.declared.event.DropKind.{DropKind}
 use Rattle.life_core.specs.declared.event.DropKind.TheVariants as drop_kind
 use Rattle.life_core.specs.declared.event.Event.{Event}
-use Rattle.life_script.specs.ScriptView.{ScriptView}
+use Rattle.life_stack.specs.Ident.{Numbered}
 use Rattle.life_script.specs.Views.{ReplyView}
 use Rattle.life_script.specs.declared.answer.Answer.{Answer}
 use Rattle.life_script.specs.declared.answer.Answer.TheVariants as ans
@@ -28,17 +28,18 @@ use Rattle.life_script.specs.declared.scenario.Act.TheVariants as act
 use Rattle.life_script.specs.declared.scenario.Limits.{Limits}
 use Rattle.life_stack.specs.Own.{Own, NotBefore, polls_before_drop, first_drop, polls, dropped_at}
 use Rattle.life_stack.specs.Story.{Outcome, Replied, Failed, shown_headers, head, tells_after, body_answer, by_head, on_call, on_poll, answer, answers, is_ending, any_ending, kind_after, kind_of, drops, events_of}
-use Rattle.life_stack.specs.Driven.{DriveStack, DriveFuture, DriveBody, drive_calls, drive_polls, drive_leaves, drive_frames, drive_body_leaves, drive_ends, Head, Heads, Plan, plan, StackStands, FutureStands, BodyStands, future_history, body_history, timed_body_history}
+use Rattle.life_stack.specs.Driven.{DriveStack, DriveFuture, DriveBody, drive_calls, drive_polls, drive_leaves, drive_frames, drive_body_leaves, drive_ends, Head, TellsHead, BodyPlan, Plan, body_plan, plan, StackStands, FutureStands, BodyStands, future_history, body_history, timed_body_history}
 use Rattle.life_stack.specs.StandsAt.{FreshAt, FutureAt, FutureAnswered, BodyAt, FutureSaid, FutureLeft, FuturePolled, BodySaid, BodyPolled, Called}
-use Rattle.life_stack.specs.Script.{IsNumbered}
+use Rattle.life_script.specs.Valid.{ScriptFits}
+use Rattle.life_stack.specs.Script.{IsRequestOf}
 use Rattle.life_stack.specs.declared.ext.Ext.{Ext}
 use Rattle.life_stack.specs.declared.script_service.ScriptBody.{ScriptBody}
 use Rattle.life_stack.proofs.Heads.{head_of, head_kept, length_push, no_head}
 use Rattle.life_stack.proofs.Acts.{called_kept, called_now, after_now, polls_after_poll, dropped_after_poll, answers_push, any_ending_push, kind_of_push, not_before_push}
-use Rattle.life_stack.proofs.Answering.{timed_says, IsPlain, timed_plain, head_said, answer_at_head, answer_above_head, last_poll, earlier_poll, ending_said, body_table, future_events, frame_events}
+use Rattle.life_stack.proofs.Answering.{timed_says, head_said, answer_at_head, answer_above_head, last_poll, earlier_poll, ending_said, body_table, future_events, frame_events}
 use Rattle.life_stack.proofs.DrivenFollows.{future_follows, body_follows, stack_follows, stack_keeps}
 
-module _ (limits : Limits) (script : ScriptView) where
+module _ (limits : Limits) (script : Numbered) where
   pub any_next : (before : List Own) (x : Own) (a : Answer) → answer limits script before x ≡ a → any_ending (answers limits script (before ++ x ∷ [])) ≡ (any_ending (answers limits script before) || is_ending a)
   any_next before x a e = ap any_ending (answers_push limits script before x) ∙ any_ending_push (answers limits script before) (answer limits script before x) ∙ ap (λ y. any_ending (answers limits script before) || is_ending y) e
 
@@ -70,15 +71,19 @@ module _ (limits : Limits) (script : ScriptView) where
         grew = g;
       }
 
-  pub stack_called : (i : ℕ) (before : List Own) (was now : Recorded) (m : Moment) (s new : DriveStack) (req : Request ScriptBody Ext) (made : Result DriveFuture NoMemory) → IsNumbered i req →
-      FreshAt limits script before → StackStands limits script i s → drive_calls s req was m made new now → IfOk made (λ f. Called limits script before m.now was f now)
-  stack_called i before was now m s new req (Ok f) n at k c = let g = (stack_follows limits script i).call s req was m f new now n k c in called_steps before m.now was f now at g.1 g.2
-  stack_called i before was now m s new req (Err e) n at k c = tt
+  -- the script that a stack stands for has lists that are short enough
+  fits_of : (s : DriveStack) → StackStands limits script s → ScriptFits script.script
+  fits_of s k = ((((k.inner).inner).inner).inner).1
 
-  pub stack_kept : (i : ℕ) (was now : Recorded) (m : Moment) (s new : DriveStack) (req : Request ScriptBody Ext) (made : Result DriveFuture NoMemory) →
-      StackStands limits script i s → drive_calls s req was m made new now → StackStands limits script i new
-  stack_kept i was now m s new req (Ok f) k c = ((stack_keeps limits script i).call s req was m f new now tt k c).0
-  stack_kept i was now m s new req (Err e) k c = (stack_keeps limits script i).refused s req was m e new now k c
+  pub stack_called : (before : List Own) (was now : Recorded) (m : Moment) (s new : DriveStack) (req : Request ScriptBody Ext) (made : Result DriveFuture NoMemory) → IsRequestOf script.script script.number req →
+      FreshAt limits script before → StackStands limits script s → drive_calls s req was m made new now → IfOk made (λ f. Called limits script before m.now was f now)
+  stack_called before was now m s new req (Ok f) n at k c = let g = (stack_follows limits script).call s req was m f new now (n, fits_of s k) k c in called_steps before m.now was f now at g.1 g.2
+  stack_called before was now m s new req (Err e) n at k c = tt
+
+  pub stack_kept : (was now : Recorded) (m : Moment) (s new : DriveStack) (req : Request ScriptBody Ext) (made : Result DriveFuture NoMemory) →
+      StackStands limits script s → drive_calls s req was m made new now → StackStands limits script new
+  stack_kept was now m s new req (Ok f) k c = ((stack_keeps limits script).call s req was m f new now tt k c).0
+  stack_kept was now m s new req (Err e) k c = (stack_keeps limits script).refused s req was m e new now k c
 
   -- A future that waits.
   said_quiet : (a : Poll (Result (Response DriveBody Ext) (List ℕ))) (x : Answer) (es : List Event) → FutureSaid a x → events_of x es ≡ []
@@ -96,12 +101,12 @@ module _ (limits : Limits) (script : ScriptView) where
     polled_more : (t : ℕ) → polls (before ++ (t, act.Poll) ∷ []) ≡ polls before ++ t ∷ []
     polled_more t = polls_after_poll before at.t0 at.called t at.undropped
 
-    by_answer : (t : ℕ) (new : DriveFuture) (said : Said Head ReplyView (List ℕ)) (a : Poll (Result (Response DriveBody Ext) (List ℕ))) →
-        head limits script at.t0 (polls before ++ t ∷ []) ≡ head_of (length (polls before)) said → IsPlain said →
-        Matches Heads (BodyStands limits at.t0) (said_under {P = ℕ × ReplyView} {Q = Plan} (λ head p. (head, p)) (said_under {P = ReplyView} {Q = ℕ × ReplyView} (λ head p. (t, p)) said)) a →
+    by_answer : (t : ℕ) (new : DriveFuture) (said : Said Head BodyPlan (List ℕ)) (a : Poll (Result (Response DriveBody Ext) (List ℕ))) →
+        head limits script at.t0 (polls before ++ t ∷ []) ≡ head_of (length (polls before)) said →
+        Matches TellsHead (BodyStands limits at.t0) (said_under {P = ℕ × BodyPlan} {Q = Plan} (λ head p. (head, p)) (said_under {P = BodyPlan} {Q = ℕ × BodyPlan} (λ head p. (t, p)) said)) a →
         FutureStands limits script at.t0 new (where_after at.past t a) →
         FutureSaid a (answer limits script before (t, act.Poll)) × FutureLeft limits script (before ++ (t, act.Poll) ∷ []) a new
-    by_answer t new Waits Pending e plain m stands =
+    by_answer t new Waits Pending e m stands =
         let a : answer limits script before (t, act.Poll) ≡ ans.Pending = poll_by_head t None e in (
           a,
           record {
@@ -117,13 +122,14 @@ module _ (limits : Limits) (script : ScriptView) where
             stands = stands;
           },
         )
-    by_answer t new (Gives said r) (Ready (Ok resp)) e plain m stands =
+    by_answer t new (Gives said p) (Ready (Ok resp)) e m stands =
         let k = length (polls before) in
+        let r : ReplyView = record { status = said.0; headers = said.1; body = p.items; tells = p.tells } in
         let given : Answer = ans.Response r.status (shown_headers r.headers) (tells_after r 0) in
         let a : answer limits script before (t, act.Poll) ≡ given = poll_by_head t (Some (k, Replied r)) e ∙ answer_at_head limits (polls before ++ t ∷ []) k (Replied r) in
-        let tells = (body_follows limits at.t0).tells (said, (t, r)) resp.body [] m.1 in
-        let status_is : resp.head.parts.status ≡ r.status = m.0.status_is ∙ ap (λ h. h.0) plain in
-        let headers_are : fields resp.head.parts.headers ≡ shown_headers r.headers = ap fields m.0.headers_are ∙ ap (λ h. shown_headers h.1) plain in (
+        let tells = (body_follows limits at.t0).tells (said, (t, p)) resp.body [] m.1 in
+        let status_is : resp.head.parts.status ≡ r.status = (m.0).status_is in
+        let headers_are : fields resp.head.parts.headers ≡ shown_headers r.headers = ap fields (m.0).headers_are in (
           a ∙ sym (ap (λ x. ans.Response x (fields resp.head.parts.headers) (drive_ends resp.body)) status_is
               ∙ ap (λ x. ans.Response r.status x (drive_ends resp.body)) headers_are ∙ ap (ans.Response r.status (shown_headers r.headers)) tells),
           (
@@ -143,11 +149,11 @@ module _ (limits : Limits) (script : ScriptView) where
               latest = λ u n. tt;
               kind = kind_next before (t, act.Poll) given a;
               ending = any_next before (t, act.Poll) given a ∙ ap (λ b. b || tells_after r 0) at.no_ending;
-              stands = subst (λ x. BodyStands limits at.t0 (x, (t, r)) resp.body []) plain m.1;
+              stands = m.1;
             },
           ),
         )
-    by_answer t new (Fails error) (Ready (Err x)) e plain m stands =
+    by_answer t new (Fails error) (Ready (Err x)) e m stands =
         let k = length (polls before) in
         let a : answer limits script before (t, act.Poll) ≡ ans.ServiceError error = poll_by_head t (Some (k, Failed error)) e ∙ answer_at_head limits (polls before ++ t ∷ []) k (Failed error) in (
           a ∙ ap ans.ServiceError (sym m),
@@ -160,11 +166,11 @@ module _ (limits : Limits) (script : ScriptView) where
             },
           ),
         )
-    by_answer t new (Fails error) Pending e plain m stands = absurd m
-    by_answer t new (Fails error) (Ready (Ok resp)) e plain m stands = absurd m
-    by_answer t new Waits (Ready x) e plain m stands = absurd m
-    by_answer t new (Gives said r) Pending e plain m stands = absurd m
-    by_answer t new (Gives said r) (Ready (Err x)) e plain m stands = absurd m
+    by_answer t new (Fails error) Pending e m stands = absurd m
+    by_answer t new (Fails error) (Ready (Ok resp)) e m stands = absurd m
+    by_answer t new Waits (Ready x) e m stands = absurd m
+    by_answer t new (Gives said r) Pending e m stands = absurd m
+    by_answer t new (Gives said r) (Ready (Err x)) e m stands = absurd m
 
     pub future_polled : (was now : Recorded) (m : Moment) (made : Reply DriveBody Ext (List ℕ)) (new : DriveFuture) → drive_polls f was m made new now →
         IfOk made (λ a. FuturePolled limits script before m.now was a new now)
@@ -174,7 +180,7 @@ module _ (limits : Limits) (script : ScriptView) where
         let t = m.now in
         let both = by_answer t new (timed_says limits script at.t0 (length at.past) t) a
         (head_said limits script at.t0 (polls before) t at.unanswered ∙ ap (λ k. head_of (length (polls before)) (timed_says limits script at.t0 k t)) (sym at.polled))
-        (timed_plain limits script at.t0 (length at.past) t) i.answer i.stands in record {
+        i.answer i.stands in record {
           said = both.0;
           left = both.1;
           grew = subst (λ l. Grew was now l) (future_events limits script at.t0 at.past t ∙ sym (said_quiet a _ _ both.0)) i.grew;
@@ -206,7 +212,7 @@ module _ (limits : Limits) (script : ScriptView) where
         FrameSteps (BodyStands limits at.t0) (body_history limits at.t0 (plan at.reply at.ph)) (plan at.reply at.ph) at.past was t x new now →
         BodyPolled limits script before t was x new now
     frame_steps was now t x new order i =
-        let hist = timed_body_history limits (at.ph, at.reply) in
+        let hist = timed_body_history limits (at.ph, body_plan at.reply) in
         let ps = polls before in
         let k = length ps in
         let latest = at.latest t order in
@@ -245,7 +251,7 @@ module _ (limits : Limits) (script : ScriptView) where
                 ∙ ap (λ y. ended hist at.past || y) (ending_said x (drive_ends new) _ said ∙ ap (λ y. is_ending_frame y (drive_ends new)) i.answer ∙ ap (is_ending_frame (hist.frame at.past t)) tells);
             stands = i.stands;
           };
-          grew = subst (λ l. Grew was now l) (frame_events limits at.ph at.reply at.past t ∙ sym (frame_quiet x (drive_ends new) _ _ said)) i.grew;
+          grew = subst (λ l. Grew was now l) (frame_events limits at.ph (body_plan at.reply) at.past t ∙ sym (frame_quiet x (drive_ends new) _ _ said)) i.grew;
         }
       where
         kind_said : (x : Poll (Option (Result (Frame (List ℕ)) (BodyError (List ℕ))))) (e : Bool) (a : Answer) (what : DropKind) → BodySaid x e a → kind_after what a ≡ what
@@ -267,7 +273,7 @@ module _ (limits : Limits) (script : ScriptView) where
         frame_steps was now m.now a new order ((body_follows limits at.t0).frame (plan at.reply at.ph) at.past b was m a new now (at.latest m.now order) at.stands p)
 
     body_drops_now : (t : ℕ) → (body_history limits at.t0 (plan at.reply at.ph)).left at.past t ≡ drops limits script before t
-    body_drops_now t = unless_is (ended (timed_body_history limits (at.ph, at.reply)) at.past) _ ∙ sym (rw (at.called, at.ending, at.kind))
+    body_drops_now t = unless_is (ended (timed_body_history limits (at.ph, body_plan at.reply)) at.past) _ ∙ sym (rw (at.called, at.ending, at.kind))
       where
         unless_is : (x : Bool) (es : List Event) → unless_ended x es ≡ (if x then [] else es)
         unless_is true es = refl
@@ -279,7 +285,7 @@ module _ (limits : Limits) (script : ScriptView) where
 
     pub body_refused : (was now : Recorded) (m : Moment) (made : Result Unit NoMemory) → drive_body_leaves b was m made now → IfErr made (λ e. was.spare ≡ 0)
     body_refused was now m (Ok u) l = tt
-    body_refused was now m (Err e) l = let r = (body_follows limits at.t0).refused (plan at.reply at.ph) at.past b was m e now at.stands l in at_most_one (ended (timed_body_history limits (at.ph, at.reply)) at.past) _ r
+    body_refused was now m (Err e) l = let r = (body_follows limits at.t0).refused (plan at.reply at.ph) at.past b was m e now at.stands l in at_most_one (ended (timed_body_history limits (at.ph, body_plan at.reply)) at.past) _ r
       where
         at_most_one : (x : Bool) (one : Event) → was.spare < length (unless_ended x (one ∷ [])) → was.spare ≡ 0
         at_most_one true one r = omega (arith, r)

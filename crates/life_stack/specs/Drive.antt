@@ -7,6 +7,7 @@ use Rattle.life_script.specs.declared.error.DriveError.{DriveError}
 use Rattle.life_script.specs.declared.error.DriveError.TheVariants.{TooManyHeaders, ClockBack, NoRequest, NoMemory}
 use Rattle.life_script.specs.declared.scenario.Limits.{Limits}
 use Rattle.life_script.specs.declared.scenario.Step.{Step}
+use Rattle.life_stack.specs.Ident.{numbered}
 use Rattle.life_stack.specs.Own.{own}
 use Rattle.life_stack.specs.ReportView.{ReportView}
 use Rattle.life_stack.specs.Story.{story}
@@ -14,7 +15,7 @@ use Rattle.life_stack.specs.Story.{story}
 -- the stories of the requests from number i on, each by its own steps
 abbrev pub stories : Limits → List ScriptView → ℕ → List Step → ℕ → List ToldView
 stories limits [] i steps end = []
-stories limits (script ∷ scripts) i steps end = story limits script (own steps i) end ∷ stories limits scripts (suc i) steps end
+stories limits (script ∷ scripts) i steps end = story limits (numbered i script) (own steps i) end ∷ stories limits scripts (suc i) steps end
 
 -- the report of a scenario: the story of each request, its steps and its end
 abbrev pub report_of : Limits → ScenarioView → ReportView

@@ -1,7 +1,7 @@
 -- What a session keeps of one request after some of its acts.
 use Rattle.std.specs.Prelude.{◌≡◌, ℕ, ◌≤◌, List, [], ◌∷◌, ◌++◌}
 use Rattle.life_core.specs.Recorded.{Recorded}
-use Rattle.life_script.specs.ScriptView.{ScriptView}
+use Rattle.life_stack.specs.Ident.{Numbered}
 use Rattle.life_script.specs.ToldView.{TurnView}
 use Rattle.life_script.specs.declared.scenario.Limits.{Limits}
 use Rattle.life_stack.specs.LiveAt.{HasRoom, LiveAt, MayGoOn}
@@ -19,7 +19,7 @@ pub record IsFresh (steps : ℕ) (e : Exchange) : Type 0 where
   pub turns_left : steps ≤ e.turns.spare
 
 -- what is live stands at these acts, with room for its early drop; the turns are the table's, with room for so many more
-pub record ExchangeAt (limits : Limits) (script : ScriptView) (acts : List Own) (left : ℕ) (e : Exchange) : Type 0 where
+pub record ExchangeAt (limits : Limits) (script : Numbered) (acts : List Own) (left : ℕ) (e : Exchange) : Type 0 where
   pub live : LiveAt limits script acts e.live
   pub may : MayGoOn e.live
   pub room : HasRoom e.live e.log.spare
@@ -28,10 +28,10 @@ pub record ExchangeAt (limits : Limits) (script : ScriptView) (acts : List Own) 
   pub turns_left : left ≤ e.turns.spare
 
 -- the turn of an act is the table's
-pub record Turned (limits : Limits) (script : ScriptView) (acts : List Own) (x : Own) (p : Live × TurnView) : Type 0 where
+pub record Turned (limits : Limits) (script : Numbered) (acts : List Own) (x : Own) (p : Live × TurnView) : Type 0 where
   pub live : LiveAt limits script (acts ++ x ∷ []) p.0
   pub turn_is : p.1 ≡ turn limits script acts x
 
 -- what is recorded at the end is the table's
-pub record Ended (limits : Limits) (script : ScriptView) (acts : List Own) (end : ℕ) (was now : Recorded) : Type 0 where
+pub record Ended (limits : Limits) (script : Numbered) (acts : List Own) (end : ℕ) (was now : Recorded) : Type 0 where
   pub log : now.log ≡ was.log ++ at_end limits script acts end

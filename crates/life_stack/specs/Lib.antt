@@ -6,6 +6,7 @@ pub mod Lines
 pub mod LiveAt
 pub mod Own
 pub mod Exchanged
+pub mod Ident
 pub mod Report
 pub mod ReportView
 pub mod Rows

@@ -1,7 +1,7 @@
 -- What is live after some acts of a request, and what one act shows.
 use Rattle.std.specs.Prelude.{◌≡◌, ℕ, ◌≤◌, List, [], ◌∷◌, ◌++◌, ⊤}
 use Rattle.life_core.specs.Recorded.{Recorded}
-use Rattle.life_script.specs.ScriptView.{ScriptView}
+use Rattle.life_stack.specs.Ident.{Numbered}
 use Rattle.life_script.specs.declared.answer.Answer.{Answer}
 use Rattle.life_script.specs.declared.scenario.Limits.{Limits}
 use Rattle.life_stack.specs.Driven.{BodyMay, FutureLive, FutureMay}
@@ -18,7 +18,7 @@ MayGoOn (live.Future f) = FutureLive f × FutureMay f
 MayGoOn (live.Body b) = BodyMay b
 MayGoOn live.Over = ⊤
 
-abbrev pub LiveAt : Limits → ScriptView → List Own → Live → Type 0
+abbrev pub LiveAt : Limits → Numbered → List Own → Live → Type 0
 LiveAt limits script acts live.Fresh = FreshAt limits script acts
 LiveAt limits script acts (live.Future f) = FutureAt limits script acts f
 LiveAt limits script acts (live.Body b) = BodyAt limits script acts b
@@ -39,7 +39,7 @@ IsIdle (live.Body b) = ⊥
 IsIdle live.Over = ⊤
 
 -- the answer and the events are the table's, and what is live stands at the longer list
-pub record Shown (limits : Limits) (script : ScriptView) (acts : List Own) (x : Own) (was : Recorded) (p : Live × Answer) (now : Recorded) : Type 0 where
+pub record Shown (limits : Limits) (script : Numbered) (acts : List Own) (x : Own) (was : Recorded) (p : Live × Answer) (now : Recorded) : Type 0 where
   pub live : LiveAt limits script (acts ++ x ∷ []) p.0
   pub answer_is : p.1 ≡ answer limits script acts x
   pub log : now.log ≡ was.log ++ events_of (answer limits script acts x) (drops limits script (acts ++ x ∷ []) x.0)

@@ -23,6 +23,9 @@ use Rattle.life_script.specs.declared.scenario.BodyItem.TheVariants as body_item
 use Rattle.life_script.specs.declared.scenario.PollItem.{PollItem}
 use Rattle.life_script.specs.declared.scenario.Then.{Then}
 use Rattle.life_script.specs.declared.scenario.Then.TheVariants as then_
+use Rattle.life_head.specs.declared.request_id.id.RequestId.{RequestId}
+use Rattle.life_head.specs.declared.request_id.number.Number.{Number}
+use Rattle.life_script.specs.Valid.{ScriptFits}
 use Rattle.life_stack.specs.declared.ext.Ext.{Ext}
 use Rattle.life_stack.specs.declared.script_service.ScriptBody.{ScriptBody}
 use Rattle.life_stack.specs.declared.script_service.ScriptFuture.{ScriptFuture}
@@ -38,7 +41,20 @@ polls_of f = drop f.next f.polls.items
 
 -- what no one has set
 abbrev pub IsDefaultExt : Ext → Type 0
-IsDefaultExt e = e.number ≡ None
+IsDefaultExt e = (e.number ≡ None) × (e.id ≡ None)
+
+-- the number and the id of an extension, and the extension with another id
+abbrev pub ext_number : Ext → Option Number
+ext_number e = e.number
+
+abbrev pub with_number : Ext → Number → Ext
+with_number e number = record e { number = Some number }
+
+abbrev pub ext_id : Ext → Option RequestId
+ext_id e = e.id
+
+abbrev pub with_id : Ext → RequestId → Ext
+with_id e id = record e { id = Some id }
 
 pub record IsBodyOf (reply : ReplyView) (b : ScriptBody) : Type 0 where
   pub items : items_of b ≡ reply.body
@@ -111,13 +127,13 @@ ScriptPolls old was m (Err e) new now = now ≡ was
 abbrev pub IsServiceOf : List ScriptView → ScriptService → Type 0
 IsServiceOf scripts s = s.scripts.value.items ≡ scripts
 
--- it finds this script for number i
+-- it finds this script, whose header lists are not too long, for number i
 abbrev pub Finds : ScriptView → ℕ → ScriptService → Type 0
-Finds script i s = slice_get s.scripts.value.items i ≡ Some script
+Finds script i s = (slice_get s.scripts.value.items i ≡ Some script) × ScriptFits script
 
 -- a request of number i
 abbrev pub IsNumbered : {B : Type 0} → ℕ → Request B Ext → Type 0
-IsNumbered i r = r.head.ext.number ≡ Some i
+IsNumbered i r = r.head.ext.number ≡ Some (record { 0 = i })
 
 -- the request of a script and its number: GET /, HTTP/1.1, with the script's headers and a body without items
 pub record IsRequestOf (script : ScriptView) (i : ℕ) (r : Request ScriptBody Ext) : Type 0 where
@@ -127,9 +143,9 @@ pub record IsRequestOf (script : ScriptView) (i : ℕ) (r : Request ScriptBody E
   pub body : IsDefaultBody r.body
 
 -- the poll items of the script of a number, none where there is no such script
-abbrev pub polls_for : List ScriptView → Option ℕ → List PollItem
+abbrev pub polls_for : List ScriptView → Option Number → List PollItem
 polls_for scripts None = []
-polls_for scripts (Some i) = option_map_or (λ (s : ScriptView). s.polls) (slice_get scripts i) []
+polls_for scripts (Some i) = option_map_or (λ (s : ScriptView). s.polls) (slice_get scripts i.0) []
 
 abbrev pub ScriptReadies : ScriptService → Recorded → Moment → Poll (Result Unit (List ℕ)) → ScriptService → Recorded → Type 0
 ScriptReadies old was m answer new now = (answer ≡ Ready (Ok tt)) × (new ≡ old) × (now ≡ was)

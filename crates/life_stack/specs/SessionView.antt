@@ -9,6 +9,7 @@ use Rattle.life_script.specs.declared.scenario.Limits.{Limits}
 use Rattle.life_script.specs.declared.scenario.Step.{Step}
 use Rattle.life_stack.specs.Driven.{DriveStack, StackMay, StackStands}
 use Rattle.life_stack.specs.Exchanged.{ExchangeAt}
+use Rattle.life_stack.specs.Ident.{Numbered, numbered}
 use Rattle.life_stack.specs.Own.{NotBefore, Own, own}
 use Rattle.life_stack.specs.ReportView.{steps_of}
 use Rattle.life_stack.specs.Story.{story}
@@ -37,9 +38,9 @@ pub record IsSession (v : SessionView) : Type 0 where
   pub within : v.done ≤ length v.scenario.steps
   pub count : length v.exchanges ≡ length v.scenario.requests
   pub may : StackMay v.stack
-  pub stack : (i : ℕ) (script : ScriptView) → slice_get v.scenario.requests i ≡ Some script → StackStands v.limits script i v.stack
+  pub stack : (i : ℕ) (script : ScriptView) → slice_get v.scenario.requests i ≡ Some script → StackStands v.limits (numbered i script) v.stack
   pub each : (i : ℕ) (script : ScriptView) (e : Exchange) → slice_get v.scenario.requests i ≡ Some script → slice_get v.exchanges i ≡ Some e
-      → ExchangeAt v.limits script (acts_done v i) (turns_left v i) e
+      → ExchangeAt v.limits (numbered i script) (acts_done v i) (turns_left v i) e
 
 -- no step is done
 pub record IsBegun (limits : Limits) (scenario : ScenarioView) (v : SessionView) : Type 0 where
@@ -59,17 +60,19 @@ pub record Counts (requests : ℕ) (steps : List Step) (counts : List ℕ) : Typ
   pub counted : (i : ℕ) → i < requests → get_or counts i 0 ≡ steps_of i steps
 
 -- a step moves the exchange of its request alone, by its story; a Drop is not refused
-abbrev pub MovesOn : DriveStack → Step → Exchange → Exchange → Type 0
-MovesOn stack x old new = (limits : Limits) (script : ScriptView) (acts : List Own) (left : ℕ) → ExchangeAt limits script acts (suc left) old
-    → StackStands limits script x.request stack → NotBefore x.at acts → ExchangeAt limits script (acts ++ (x.at, x.act) ∷ []) left new
+abbrev pub MovesOn : DriveStack → Step → ScriptView → Exchange → Exchange → Type 0
+MovesOn stack x script old new = (limits : Limits) (acts : List Own) (left : ℕ) → ExchangeAt limits (numbered x.request script) acts (suc left) old
+    → StackStands limits (numbered x.request script) stack → NotBefore x.at acts → ExchangeAt limits (numbered x.request script) (acts ++ (x.at, x.act) ∷ []) left new
 
 abbrev pub IsAtSome : Exchange → Type 0
-IsAtSome e = (limits : Limits) × (script : ScriptView) × (acts : List Own) × (left : ℕ) × ExchangeAt limits script acts left e
+IsAtSome e = (limits : Limits) × (script : Numbered) × (acts : List Own) × (left : ℕ) × ExchangeAt limits script acts left e
 
-abbrev pub RunsOn : DriveStack → Step → List Exchange → Result Unit NoMemory → List Exchange → Type 0
-RunsOn stack x old (Ok u) new = (before : Exchange) × (after : Exchange) × (slice_get old x.request ≡ Some before) × (new ≡ slice_set old x.request after) × MovesOn stack x before after
-RunsOn stack x old (Err e) new = (before : Exchange) → slice_get old x.request ≡ Some before → IsAtSome before → x.act ≡ act.Drop → ⊥
+abbrev pub RunsOn : DriveStack → Step → List ScriptView → List Exchange → Result Unit NoMemory → List Exchange → Type 0
+RunsOn stack x scripts old (Ok u) new =
+    (before : Exchange) × (after : Exchange) × (slice_get old x.request ≡ Some before) × (new ≡ slice_set old x.request after)
+    × ((script : ScriptView) → slice_get scripts x.request ≡ Some script → MovesOn stack x script before after)
+RunsOn stack x scripts old (Err e) new = (before : Exchange) → slice_get old x.request ≡ Some before → IsAtSome before → x.act ≡ act.Drop → ⊥
 
 -- what is told of an exchange whose steps are all done is its story
 abbrev pub Tells : ℕ → Exchange → ToldView → Type 0
-Tells end e t = (limits : Limits) (script : ScriptView) (acts : List Own) (left : ℕ) → ExchangeAt limits script acts left e → t ≡ story limits script acts end
+Tells end e t = (limits : Limits) (script : Numbered) (acts : List Own) (left : ℕ) → ExchangeAt limits script acts left e → t ≡ story limits script acts end

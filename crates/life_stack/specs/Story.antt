@@ -10,8 +10,9 @@ use Rattle.http_header.specs.HeaderMap.{Entries}
 use Rattle.life_core.specs.Fields.{fields}
 use Rattle.life_core.specs.declared.body.BodyError.TheVariants.{Elapsed, Inner}
 use Rattle.life_core.specs.declared.fields.Shown.{Shown}
+use Rattle.http_header.specs.FieldValue.{FieldValue}
+use Rattle.life_stack.specs.Ident.{Numbered, ident, identified}
 use Rattle.life_script.specs.Headers.{Headers, map_of}
-use Rattle.life_script.specs.ScriptView.{ScriptView}
 use Rattle.life_script.specs.ToldView.{TurnView, ToldView}
 use Rattle.life_script.specs.Views.{ReplyView}
 use Rattle.life_script.specs.declared.answer.Answer.{Answer}
@@ -47,18 +48,22 @@ abbrev pub later : Option (ℕ × Outcome) → Option (ℕ × Outcome)
 later None = None
 later (Some (r, o)) = Some (suc r, o)
 
-abbrev pub outcome_in : Then → Option Outcome
-outcome_in then_.Pending = None
-outcome_in (then_.Fail error) = Some (Failed error)
-outcome_in (then_.Respond reply) = Some (Replied reply)
+-- the reply with the id where it has none
+abbrev pub replied : FieldValue → ReplyView → ReplyView
+replied id reply = record reply { headers = identified id reply.headers }
+
+abbrev pub outcome_in : FieldValue → Then → Option Outcome
+outcome_in id then_.Pending = None
+outcome_in id (then_.Fail error) = Some (Failed error)
+outcome_in id (then_.Respond reply) = Some (Replied (replied id reply))
 
 abbrev pub here_or_later : Option Outcome → Option (ℕ × Outcome) → Option (ℕ × Outcome)
 here_or_later (Some o) rest = Some (0, o)
 here_or_later None rest = later rest
 
-abbrev pub first_outcome : List PollItem → Option (ℕ × Outcome)
-first_outcome [] = None
-first_outcome (item ∷ items) = here_or_later (outcome_in item.then) (first_outcome items)
+abbrev pub first_outcome : FieldValue → List PollItem → Option (ℕ × Outcome)
+first_outcome id [] = None
+first_outcome id (item ∷ items) = here_or_later (outcome_in id item.then) (first_outcome id items)
 
 -- the lesser of the two; the due case wins a tie
 abbrev pub earlier : Option ℕ → Option (ℕ × Outcome) → Outcome → Option (ℕ × Outcome)
@@ -75,8 +80,8 @@ counted n (Some (k, o)) = if nat_lt k n then Some (k, o) else None
 abbrev pub due_reply : Limits → ReplyView
 due_reply limits = record { status = limits.timeout_status; headers = []; body = []; tells = true }
 
-abbrev pub head : Limits → ScriptView → ℕ → List ℕ → Option (ℕ × Outcome)
-head limits script t0 ps = counted (length ps) (earlier (first_due t0 limits.timeout ps) (first_outcome script.polls) (Replied (due_reply limits)))
+abbrev pub head : Limits → Numbered → ℕ → List ℕ → Option (ℕ × Outcome)
+head limits script t0 ps = counted (length ps) (earlier (first_due t0 limits.timeout ps) (first_outcome (ident script) script.script.polls) (Replied (due_reply limits)))
 
 -- THE BODY of a reply.
 
@@ -120,7 +125,7 @@ by_head limits ps k (Some (h, o)) =
     else (if k == h then head_answer o
     else later_answer limits o (slice_index ps h) (slice_index ps k) (k - suc h))
 
-abbrev pub poll_answer : Limits → ScriptView → ℕ → List ℕ → ℕ → Answer
+abbrev pub poll_answer : Limits → Numbered → ℕ → List ℕ → ℕ → Answer
 poll_answer limits script t0 ps k = by_head limits ps k (head limits script t0 ps)
 
 -- by the time of the first Call before the act, and of the first Drop after that
@@ -128,7 +133,7 @@ abbrev pub on_call : Option ℕ → Answer
 on_call None = ans.Called
 on_call (Some t0) = ans.Idle
 
-abbrev pub on_poll : Limits → ScriptView → Option ℕ → Option ℕ → List ℕ → ℕ → Answer
+abbrev pub on_poll : Limits → Numbered → Option ℕ → Option ℕ → List ℕ → ℕ → Answer
 on_poll limits script None d ps k = ans.Idle
 on_poll limits script (Some t0) (Some d) ps k = ans.Idle
 on_poll limits script (Some t0) None ps k = poll_answer limits script t0 ps k
@@ -139,22 +144,22 @@ drop_answer None = ans.Dropped
 drop_answer (Some (h, Replied reply)) = ans.Dropped
 drop_answer (Some (h, Failed error)) = ans.Idle
 
-abbrev pub on_drop : Limits → ScriptView → Option ℕ → Option ℕ → List ℕ → Answer
+abbrev pub on_drop : Limits → Numbered → Option ℕ → Option ℕ → List ℕ → Answer
 on_drop limits script None d ps = ans.Idle
 on_drop limits script (Some t0) (Some d) ps = ans.Idle
 on_drop limits script (Some t0) None ps = drop_answer (head limits script t0 ps)
 
 -- the answer to an act depends on the acts up to it alone
-abbrev pub answer : Limits → ScriptView → List Own → Own → Answer
+abbrev pub answer : Limits → Numbered → List Own → Own → Answer
 answer limits script before (t, act.Call) = on_call (called_at before)
 answer limits script before (t, act.Poll) = on_poll limits script (called_at before) (dropped_at before) (polls before ++ t ∷ []) (length (polls before))
 answer limits script before (t, act.Drop) = on_drop limits script (called_at before) (dropped_at before) (polls before)
 
-abbrev pub answers_after : Limits → ScriptView → List Own → List Own → List Answer
+abbrev pub answers_after : Limits → Numbered → List Own → List Own → List Answer
 answers_after limits script before [] = []
 answers_after limits script before (x ∷ acts) = answer limits script before x ∷ answers_after limits script (before ++ x ∷ []) acts
 
-abbrev pub answers : Limits → ScriptView → List Own → List Answer
+abbrev pub answers : Limits → Numbered → List Own → List Answer
 answers limits script acts = answers_after limits script [] acts
 
 -- EARLY DROPS.
@@ -196,7 +201,7 @@ abbrev pub drops_at : Option ℕ → List Answer → ℕ → List Event
 drops_at None given d = []
 drops_at (Some t0) given d = if any_ending given then [] else event.Dropped (kind_of drop_kind.Future given) (record { unit = Nanos; nanos = since t0 d }) ∷ []
 
-abbrev pub drops : Limits → ScriptView → List Own → ℕ → List Event
+abbrev pub drops : Limits → Numbered → List Own → ℕ → List Event
 drops limits script acts d = drops_at (called_at acts) (answers limits script acts) d
 
 -- THE STORY.
@@ -213,13 +218,13 @@ events_of ans.End es = []
 events_of (ans.Fault fault) es = []
 events_of ans.Dropped es = es
 
-abbrev pub turn : Limits → ScriptView → List Own → Own → TurnView
+abbrev pub turn : Limits → Numbered → List Own → Own → TurnView
 turn limits script before x = record {
   answer = answer limits script before x;
   events = events_of (answer limits script before x) (drops limits script (before ++ x ∷ []) x.0);
 }
 
-abbrev pub turns_after : Limits → ScriptView → List Own → List Own → List TurnView
+abbrev pub turns_after : Limits → Numbered → List Own → List Own → List TurnView
 turns_after limits script before [] = []
 turns_after limits script before (x ∷ acts) = turn limits script before x ∷ turns_after limits script (before ++ x ∷ []) acts
 
@@ -228,10 +233,10 @@ abbrev pub unless_dropped : Option ℕ → List Event → List Event
 unless_dropped None es = es
 unless_dropped (Some d) es = []
 
-abbrev pub at_end : Limits → ScriptView → List Own → ℕ → List Event
+abbrev pub at_end : Limits → Numbered → List Own → ℕ → List Event
 at_end limits script acts end = unless_dropped (dropped_at acts) (drops limits script acts end)
 
-abbrev pub story : Limits → ScriptView → List Own → ℕ → ToldView
+abbrev pub story : Limits → Numbered → List Own → ℕ → ToldView
 story limits script acts end = record { turns = turns_after limits script [] acts; at_end = at_end limits script acts end }
 
 -- the early-drop records among what was told, in order

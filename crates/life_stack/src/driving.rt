@@ -5,6 +5,7 @@ ghost use Rattle.life_script.specs.ToldView.{ToldView};
 ghost use Rattle.life_script.specs.Valid.{IsValid, verdict};
 ghost use Rattle.life_script.specs.declared.error.DriveError.TheVariants.{NoMemory as OutOfMemory};
 ghost use Rattle.life_stack.specs.Drive.{IsRefused, report_of};
+ghost use Rattle.life_stack.specs.Ident.{numbered};
 ghost use Rattle.life_stack.specs.Own.{drop_time, dropped_at, own};
 ghost use Rattle.life_stack.specs.Story.{drop_records, drops, story};
 
@@ -18,9 +19,9 @@ use std::alloc::Global;
 pub fn drive(alloc: Global, limits: &Limits, scenario: &Scenario) -> Result<Report, DriveError>
     ensures told { IfOk result (λ r. r ≡ report_of limits.now scenario.now) }
     ensures each { IfOk result (λ r. (i : ℕ) (script : ScriptView) → slice_get scenario.now.requests i ≡ Some script
-        → slice_get r.told i ≡ Some (story limits.now script (own r.steps i) r.end)) }
+        → slice_get r.told i ≡ Some (story limits.now (numbered i script) (own r.steps i) r.end)) }
     ensures once { IfOk result (λ r. (i : ℕ) (script : ScriptView) (t : ToldView) → slice_get scenario.now.requests i ≡ Some script → slice_get r.told i ≡ Some t
-        → drop_records t ≡ drops limits.now script (own r.steps i) (drop_time (dropped_at (own r.steps i)) r.end)) }
+        → drop_records t ≡ drops limits.now (numbered i script) (own r.steps i) (drop_time (dropped_at (own r.steps i)) r.end)) }
     ensures valid { IsOk result → IsValid scenario.now }
     ensures refused { IfErr result (λ e. IsRefused scenario.now e) }
     ensures exact { IfErr (verdict scenario.now) (λ e. result ≡ Err e) }

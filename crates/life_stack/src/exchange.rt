@@ -1,6 +1,6 @@
 //! What a session keeps of one request, and what its steps do with it.
 ghost use Rattle.std.specs.Prelude.{◌≡◌, ℕ, ◌≤◌, ◌∷◌, ◌++◌, List, [], suc, IfOk, IsOk};
-ghost use Rattle.life_script.specs.ScriptView.{ScriptView};
+ghost use Rattle.life_stack.specs.Ident.{Numbered, numbered};
 ghost use Rattle.life_script.specs.declared.scenario.Limits.{Limits as LimitsView};
 ghost use Rattle.life_stack.specs.Driven.{StackMay, StackStands};
 ghost use Rattle.life_stack.specs.Exchanged.{Ended, ExchangeAt, IsFresh, Turned};
@@ -59,11 +59,11 @@ fn act_at(
     requires may_stack { StackMay stack.old }
     ensures may { IfOk result (λ p. MayGoOn p.0) }
     ensures may_stack { StackMay stack.new }
-    ensures kept { (limits : LimitsView) (script : ScriptView) (i : ℕ) → StackStands limits script i stack.old → StackStands limits script i stack.new }
-    ensures dropped { (limits : LimitsView) (script : ScriptView) (acts : List Own) → LiveAt limits script acts live → step.act ≡ Act.Drop → HasRoom live log.old.spare → IsOk result }
+    ensures kept { (limits : LimitsView) (asked : Numbered) → StackStands limits asked stack.old → StackStands limits asked stack.new }
+    ensures dropped { (limits : LimitsView) (asked : Numbered) (acts : List Own) → LiveAt limits asked acts live → step.act ≡ Act.Drop → HasRoom live log.old.spare → IsOk result }
     ensures idle { step.act ≡ Act.Drop → IfOk result (λ p. IsIdle p.0) }
-    ensures shown { (limits : LimitsView) (script : ScriptView) (acts : List Own) → LiveAt limits script acts live → StackStands limits script step.request stack.old → NotBefore step.at acts
-        → IfOk result (λ p. Shown limits script acts (step.at, step.act) (⟦<Log as Recorder>⟧.recorded log.old) p (⟦<Log as Recorder>⟧.recorded log.new)) }
+    ensures shown { (limits : LimitsView) (acts : List Own) → LiveAt limits (numbered step.request script.now) acts live → StackStands limits (numbered step.request script.now) stack.old → NotBefore step.at acts
+        → IfOk result (λ p. Shown limits (numbered step.request script.now) acts (step.at, step.act) (⟦<Log as Recorder>⟧.recorded log.old) p (⟦<Log as Recorder>⟧.recorded log.new)) }
 {
     let span = None;
     let mut cx = Cx {
@@ -78,8 +78,8 @@ fn act_at(
 /// Gives up what is live at a time.
 fn finish_at(live: Live, at: u64, alloc: Global, log: &mut Log) -> Got<()>
     requires { MayGoOn live }
-    ensures done { (limits : LimitsView) (script : ScriptView) (acts : List Own) → LiveAt limits script acts live → HasRoom live log.old.spare → IsOk result }
-    ensures shown { (limits : LimitsView) (script : ScriptView) (acts : List Own) → LiveAt limits script acts live
+    ensures done { (limits : LimitsView) (script : Numbered) (acts : List Own) → LiveAt limits script acts live → HasRoom live log.old.spare → IsOk result }
+    ensures shown { (limits : LimitsView) (script : Numbered) (acts : List Own) → LiveAt limits script acts live
         → IfOk result (λ done. Ended limits script acts at (⟦<Log as Recorder>⟧.recorded log.old) (⟦<Log as Recorder>⟧.recorded log.new)) }
 {
     let span = None;
@@ -132,11 +132,11 @@ pub(crate) fn take_turn(
     requires room { 1 ≤ exchange.turns.spare }
     ensures may { IfOk result (λ e. MayGoOn e.live) }
     ensures may_stack { StackMay stack.new }
-    ensures kept { (limits : LimitsView) (script : ScriptView) (i : ℕ) → StackStands limits script i stack.old → StackStands limits script i stack.new }
-    ensures dropped { (limits : LimitsView) (script : ScriptView) (acts : List Own) (left : ℕ) → ExchangeAt limits script acts left exchange → step.act ≡ Act.Drop → IsOk result }
-    ensures ran { (limits : LimitsView) (script : ScriptView) (acts : List Own) (left : ℕ) → ExchangeAt limits script acts (suc left) exchange
-        → StackStands limits script step.request stack.old → NotBefore step.at acts
-        → IfOk result (ExchangeAt limits script (acts ++ (step.at, step.act) ∷ []) left) }
+    ensures kept { (limits : LimitsView) (asked : Numbered) → StackStands limits asked stack.old → StackStands limits asked stack.new }
+    ensures dropped { (limits : LimitsView) (asked : Numbered) (acts : List Own) (left : ℕ) → ExchangeAt limits asked acts left exchange → step.act ≡ Act.Drop → IsOk result }
+    ensures ran { (limits : LimitsView) (acts : List Own) (left : ℕ) → ExchangeAt limits (numbered step.request script.now) acts (suc left) exchange
+        → StackStands limits (numbered step.request script.now) stack.old → NotBefore step.at acts
+        → IfOk result (ExchangeAt limits (numbered step.request script.now) (acts ++ (step.at, step.act) ∷ []) left) }
 {
     let Exchange {
         live,
@@ -158,7 +158,7 @@ pub(crate) fn take_turn(
 /// What is told of a request whose steps all were run, where the end is at a time. It takes no memory.
 pub(crate) fn tell(exchange: Exchange, end: u64, alloc: Global) -> Told
     requires { MayGoOn exchange.live }
-    ensures { (limits : LimitsView) (script : ScriptView) (acts : List Own) (left : ℕ) → ExchangeAt limits script acts left exchange → result ≡ story limits script acts end }
+    ensures { (limits : LimitsView) (script : Numbered) (acts : List Own) (left : ℕ) → ExchangeAt limits script acts left exchange → result ≡ story limits script acts end }
 {
     let Exchange {
         live,

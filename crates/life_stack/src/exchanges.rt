@@ -1,7 +1,7 @@
 //! The exchanges of a session, one for each request.
 ghost use Rattle.std.specs.Prelude.{◌≡◌, ℕ, ◌≤◌, ◌<◌, ◌+◌, [], List, length, slice_get, slice_set, Some, IfOk};
 ghost use Rattle.std.specs.List.{All, AllZip};
-ghost use Rattle.life_script.specs.ScriptView.{ScriptView};
+ghost use Rattle.life_stack.specs.Ident.{Numbered};
 ghost use Rattle.life_script.specs.declared.scenario.Limits.{Limits as LimitsView};
 ghost use Rattle.life_script.specs.declared.scenario.Step.{Step as StepView};
 ghost use Rattle.life_stack.specs.Driven.{StackMay, StackStands};
@@ -97,8 +97,8 @@ pub(crate) fn run_step(
     requires room { (e : _) → slice_get exchanges.old.items step.request ≡ Some e → 1 ≤ e.turns.spare }
     ensures may { All (λ e. MayGoOn e.live) exchanges.new.items }
     ensures may_stack { StackMay stack.new }
-    ensures kept { (limits : LimitsView) (script : ScriptView) (i : ℕ) → StackStands limits script i stack.old → StackStands limits script i stack.new }
-    ensures ran { RunsOn stack.old step exchanges.old.items result exchanges.new.items }
+    ensures kept { (limits : LimitsView) (asked : Numbered) → StackStands limits asked stack.old → StackStands limits asked stack.new }
+    ensures ran { RunsOn stack.old step scripts.now exchanges.old.items result exchanges.new.items }
 {
     let i = step.request as usize;
     let exchange = mem::replace(&mut exchanges[i], idle_exchange(alloc));

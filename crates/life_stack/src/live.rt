@@ -3,7 +3,7 @@ ghost use Rattle.std.specs.Prelude.{◌≡◌, ◌≤◌, ◌++◌, ℕ, List, O
 ghost use Rattle.life_core.specs.Fields.{fields};
 ghost use Rattle.life_core.specs.Moment.{SameContext};
 ghost use Rattle.life_script.specs.declared.answer.Seen.{Seen as SeenView};
-ghost use Rattle.life_script.specs.ScriptView.{ScriptView};
+ghost use Rattle.life_stack.specs.Ident.{Numbered, numbered};
 ghost use Rattle.life_script.specs.declared.scenario.Limits.{Limits as LimitsView};
 ghost use Rattle.life_stack.specs.Driven.{BodyMay, FutureLive, FutureMay, StackMay, StackStands, drive_ends};
 ghost use Rattle.life_stack.specs.LiveAt.{HasRoom, IsIdle, LiveAt, MayGoOn, Shown};
@@ -107,7 +107,7 @@ fn poll_waiting(mut future: DriveFuture<Log>, cx: &mut Cx<'_, Log>) -> Got<(Live
     requires live { FutureLive future }
     requires may { FutureMay future }
     ensures may { IfOk result (λ p. MayGoOn p.0) }
-    ensures shown { (limits : LimitsView) (script : ScriptView) (acts : List Own) → FutureAt limits script acts future
+    ensures shown { (limits : LimitsView) (script : Numbered) (acts : List Own) → FutureAt limits script acts future
         → IfOk result (λ p. Shown limits script acts (cx.old.now, Act.Poll) (⟦<Log as Recorder>⟧.recorded cx.old.rec.now) p (⟦<Log as Recorder>⟧.recorded cx.new.rec.now)) }
     ensures context { SameContext ⟦<Log as Recorder>⟧.place cx.old cx.new }
 {
@@ -132,7 +132,7 @@ fn poll_waiting(mut future: DriveFuture<Log>, cx: &mut Cx<'_, Log>) -> Got<(Live
 fn poll_streaming(mut body: DriveBody, cx: &mut Cx<'_, Log>) -> Got<(Live, Answer)>
     requires { BodyMay body }
     ensures may { IfOk result (λ p. MayGoOn p.0) }
-    ensures shown { (limits : LimitsView) (script : ScriptView) (acts : List Own) → BodyAt limits script acts body → NotBefore cx.old.now acts
+    ensures shown { (limits : LimitsView) (script : Numbered) (acts : List Own) → BodyAt limits script acts body → NotBefore cx.old.now acts
         → IfOk result (λ p. Shown limits script acts (cx.old.now, Act.Poll) (⟦<Log as Recorder>⟧.recorded cx.old.rec.now) p (⟦<Log as Recorder>⟧.recorded cx.new.rec.now)) }
     ensures context { SameContext ⟦<Log as Recorder>⟧.place cx.old cx.new }
 {
@@ -156,9 +156,9 @@ fn drop_waiting(future: DriveFuture<Log>, cx: &mut Cx<'_, Log>) -> Got<(Live, An
     requires { FutureMay future }
     ensures may { IfOk result (λ p. MayGoOn p.0) }
     ensures idle { IfOk result (λ p. IsIdle p.0) }
-    ensures done { (limits : LimitsView) (script : ScriptView) (acts : List Own) → FutureAt limits script acts future
+    ensures done { (limits : LimitsView) (script : Numbered) (acts : List Own) → FutureAt limits script acts future
         → 1 ≤ (⟦<Log as Recorder>⟧.recorded cx.old.rec.now).spare → IsOk result }
-    ensures shown { (limits : LimitsView) (script : ScriptView) (acts : List Own) → FutureAt limits script acts future
+    ensures shown { (limits : LimitsView) (script : Numbered) (acts : List Own) → FutureAt limits script acts future
         → IfOk result (λ p. Shown limits script acts (cx.old.now, Act.Drop) (⟦<Log as Recorder>⟧.recorded cx.old.rec.now) p (⟦<Log as Recorder>⟧.recorded cx.new.rec.now)) }
     ensures context { SameContext ⟦<Log as Recorder>⟧.place cx.old cx.new }
 {
@@ -173,9 +173,9 @@ fn drop_streaming(body: DriveBody, cx: &mut Cx<'_, Log>) -> Got<(Live, Answer)>
     requires { BodyMay body }
     ensures may { IfOk result (λ p. MayGoOn p.0) }
     ensures idle { IfOk result (λ p. IsIdle p.0) }
-    ensures done { (limits : LimitsView) (script : ScriptView) (acts : List Own) → BodyAt limits script acts body
+    ensures done { (limits : LimitsView) (script : Numbered) (acts : List Own) → BodyAt limits script acts body
         → 1 ≤ (⟦<Log as Recorder>⟧.recorded cx.old.rec.now).spare → IsOk result }
-    ensures shown { (limits : LimitsView) (script : ScriptView) (acts : List Own) → BodyAt limits script acts body
+    ensures shown { (limits : LimitsView) (script : Numbered) (acts : List Own) → BodyAt limits script acts body
         → IfOk result (λ p. Shown limits script acts (cx.old.now, Act.Drop) (⟦<Log as Recorder>⟧.recorded cx.old.rec.now) p (⟦<Log as Recorder>⟧.recorded cx.new.rec.now)) }
     ensures context { SameContext ⟦<Log as Recorder>⟧.place cx.old cx.new }
 {
@@ -195,9 +195,9 @@ fn call_fresh(
     requires { StackMay stack.old }
     ensures may { IfOk result (λ p. MayGoOn p.0) }
     ensures may_stack { StackMay stack.new }
-    ensures kept { (limits : LimitsView) (script : ScriptView) (i : ℕ) → StackStands limits script i stack.old → StackStands limits script i stack.new }
-    ensures shown { (limits : LimitsView) (script : ScriptView) (acts : List Own) → FreshAt limits script acts → StackStands limits script number stack.old
-        → IfOk result (λ p. Shown limits script acts (cx.old.now, Act.Call) (⟦<Log as Recorder>⟧.recorded cx.old.rec.now) p (⟦<Log as Recorder>⟧.recorded cx.new.rec.now)) }
+    ensures kept { (limits : LimitsView) (asked : Numbered) → StackStands limits asked stack.old → StackStands limits asked stack.new }
+    ensures shown { (limits : LimitsView) (acts : List Own) → FreshAt limits (numbered number script.now) acts → StackStands limits (numbered number script.now) stack.old
+        → IfOk result (λ p. Shown limits (numbered number script.now) acts (cx.old.now, Act.Call) (⟦<Log as Recorder>⟧.recorded cx.old.rec.now) p (⟦<Log as Recorder>⟧.recorded cx.new.rec.now)) }
     ensures context { SameContext ⟦<Log as Recorder>⟧.place cx.old cx.new }
 {
     let request = match request_of(cx.alloc, script, number) {
@@ -224,12 +224,12 @@ pub(crate) fn act_on(
     requires may_stack { StackMay stack.old }
     ensures may { IfOk result (λ p. MayGoOn p.0) }
     ensures may_stack { StackMay stack.new }
-    ensures kept { (limits : LimitsView) (script : ScriptView) (i : ℕ) → StackStands limits script i stack.old → StackStands limits script i stack.new }
-    ensures dropped { (limits : LimitsView) (script : ScriptView) (acts : List Own) → LiveAt limits script acts live → act ≡ Act.Drop
+    ensures kept { (limits : LimitsView) (asked : Numbered) → StackStands limits asked stack.old → StackStands limits asked stack.new }
+    ensures dropped { (limits : LimitsView) (asked : Numbered) (acts : List Own) → LiveAt limits asked acts live → act ≡ Act.Drop
         → HasRoom live (⟦<Log as Recorder>⟧.recorded cx.old.rec.now).spare → IsOk result }
     ensures idle { act ≡ Act.Drop → IfOk result (λ p. IsIdle p.0) }
-    ensures shown { (limits : LimitsView) (script : ScriptView) (acts : List Own) → LiveAt limits script acts live → StackStands limits script number stack.old → NotBefore cx.old.now acts
-        → IfOk result (λ p. Shown limits script acts (cx.old.now, act) (⟦<Log as Recorder>⟧.recorded cx.old.rec.now) p (⟦<Log as Recorder>⟧.recorded cx.new.rec.now)) }
+    ensures shown { (limits : LimitsView) (acts : List Own) → LiveAt limits (numbered number script.now) acts live → StackStands limits (numbered number script.now) stack.old → NotBefore cx.old.now acts
+        → IfOk result (λ p. Shown limits (numbered number script.now) acts (cx.old.now, act) (⟦<Log as Recorder>⟧.recorded cx.old.rec.now) p (⟦<Log as Recorder>⟧.recorded cx.new.rec.now)) }
     ensures context { SameContext ⟦<Log as Recorder>⟧.place cx.old cx.new }
 {
     match live {
@@ -255,9 +255,9 @@ pub(crate) fn act_on(
 /// Gives up what is live at the end. It is not refused where there is room for the record of an early drop.
 pub(crate) fn finish(live: Live, cx: &mut Cx<'_, Log>) -> Got<()>
     requires { MayGoOn live }
-    ensures done { (limits : LimitsView) (script : ScriptView) (acts : List Own) → LiveAt limits script acts live
+    ensures done { (limits : LimitsView) (script : Numbered) (acts : List Own) → LiveAt limits script acts live
         → HasRoom live (⟦<Log as Recorder>⟧.recorded cx.old.rec.now).spare → IsOk result }
-    ensures shown { (limits : LimitsView) (script : ScriptView) (acts : List Own) → LiveAt limits script acts live
+    ensures shown { (limits : LimitsView) (script : Numbered) (acts : List Own) → LiveAt limits script acts live
         → IfOk result (λ done. Ended limits script acts cx.old.now (⟦<Log as Recorder>⟧.recorded cx.old.rec.now) (⟦<Log as Recorder>⟧.recorded cx.new.rec.now)) }
     ensures context { SameContext ⟦<Log as Recorder>⟧.place cx.old cx.new }
 {

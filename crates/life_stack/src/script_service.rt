@@ -6,6 +6,7 @@ ghost use Rattle.life_stack.specs.Script.{ScriptCalls, ScriptReadies, ScriptPoll
 use crate::ext::Ext;
 use bytes::Bytes;
 use http_body::{Frame, SizeHint};
+use life_head::request_id::Number;
 use life_core::{
     Body, Cx, DefaultBody, Future, Got, List, NoMemory, Poll, Recorder, Request, Response,
     ResponseHead, Service, Spend, Text, Twin, give_up_request,
@@ -212,13 +213,13 @@ impl ScriptService {
     }
 
     /// The poll items for a request of this number.
-    fn polls_for(&self, alloc: Global, number: Option<u64>) -> Got<PollItems>
+    fn polls_for(&self, alloc: Global, number: Option<Number>) -> Got<PollItems>
         ensures { IfOk result (λ polls. polls.items ≡ polls_for self.now.scripts.value.items number) }
     {
         let Some(number) = number else {
             return Ok(List::new(alloc));
         };
-        match self.scripts.get(number) {
+        match self.scripts.get(number.0) {
             Some(script) => script.polls.twin_items(alloc),
             None => Ok(List::new(alloc)),
         }

@@ -7,31 +7,36 @@ ghost use Rattle.life_script.specs.ScriptView.{ScriptView};
 ghost use Rattle.life_stack.specs.Driven.{BodyMay, FutureLive, FutureMay, StackMay, StackStands};
 ghost use Rattle.life_stack.specs.Own.{NotBefore, Own};
 ghost use Rattle.life_stack.specs.StandsAt.{BodyAt, BodyPolled, Called, FreshAt, FutureAnswered, FutureAt, FuturePolled};
-ghost use Rattle.life_stack.specs.Script.{IsNumbered, IsRequestOf};
-ghost use Rattle.life_script.specs.Valid.{IsValid};
+ghost use Rattle.life_stack.specs.Script.{IsRequestOf};
+ghost use Rattle.life_stack.specs.Ident.{Numbered, numbered};
+ghost use Rattle.life_script.specs.Valid.{IsValid, ScriptFits};
 ghost use Rattle.life_stack.specs.Story.{drops};
 ghost use Rattle.life_script.specs.declared.scenario.Limits.{Limits as LimitsView};
 
 use crate::ext::Ext;
 use crate::script_service::{ScriptBody, ScriptService};
 use bytes::Bytes;
+use http::HeaderName;
 use http_body::Frame;
 use life_core::{
     Body, BodyError, Cx, Future, Got, NoMemory, Poll, Recorder, Request, Response, Service, Spend,
     Text,
 };
 use life_drop::on_early_drop::{NoteDrop, NoteDropped, OnEarlyDropBody, OnEarlyDropService};
+use life_head::request_id::{ByNumber, Number, PropagateRequestId, SetRequestId};
 use life_script::{Limits, Scenario, Script, Scripts};
 use life_time::timeout::{DeadlineBody, ResponseBodyDeadline, Timeout};
 use std::alloc::Global;
 use std::rc::Rc;
 
 /// The layers over the scripted service, from the outside in.
-pub type DriveStack = OnEarlyDropService<
-    ResponseBodyDeadline<Timeout<ScriptService>>,
-    NoteDrop,
-    NoteDrop,
->;
+pub type DriveStack = SetRequestId<Watched, ByNumber>;
+
+/// The layers that look at the response, over the scripted service.
+type Watched = OnEarlyDropService<ResponseBodyDeadline<Timeout<Named>>, NoteDrop, NoteDrop>;
+
+/// The scripted service under the id of each response.
+type Named = PropagateRequestId<ScriptService>;
 
 /// The future of a driven request.
 pub type DriveFuture<L> = <DriveStack as Service<Request<ScriptBody, Ext>, L>>::Future;
@@ -41,22 +46,23 @@ pub type DriveBody = OnEarlyDropBody<DeadlineBody<ScriptBody>, NoteDropped>;
 
 /// The stack with these limits over a service of these scripts.
 pub(crate) fn stack_over(limits: &Limits, scripts: Rc<Scripts>) -> DriveStack
-    ensures stands { (script : ScriptView) (i : ℕ) → slice_get scripts.value.items i ≡ Some script → StackStands limits.now script i result }
+    ensures stands { (script : ScriptView) (i : ℕ) → slice_get scripts.value.items i ≡ Some script → ScriptFits script → StackStands limits.now (numbered i script) result }
     ensures may { StackMay result }
 {
-    let service = Timeout::with_status_code(
-        ScriptService::new(scripts),
-        limits.timeout_status,
-        limits.timeout,
-    );
+    let name = HeaderName::from_static("x-request-id");
+    let service = PropagateRequestId::new(ScriptService::new(scripts), name);
+    let service = Timeout::with_status_code(service, limits.timeout_status, limits.timeout);
     let service = ResponseBodyDeadline::new(service, limits.body_deadline);
-    OnEarlyDropService::new(service, NoteDrop::new(), NoteDrop::new())
+    let service = OnEarlyDropService::new(service, NoteDrop::new(), NoteDrop::new());
+    let name = HeaderName::from_static("x-request-id");
+    SetRequestId::new(service, name, ByNumber)
 }
 
-/// The stack with these limits over a service of the scenario's scripts, each of which it serves by its
+/// The stack with these limits over a service of a valid scenario's scripts, each of which it serves by its
 /// number. The one error is want of memory.
 pub fn drive_stack(alloc: Global, limits: &Limits, scenario: &Scenario) -> Got<DriveStack>
-    ensures stands { (script : ScriptView) (i : ℕ) → slice_get scenario.now.requests i ≡ Some script → IfOk result (StackStands limits.now script i) }
+    requires { IsValid scenario.now }
+    ensures stands { (script : ScriptView) (i : ℕ) → slice_get scenario.now.requests i ≡ Some script → IfOk result (StackStands limits.now (numbered i script)) }
     ensures may { IfOk result StackMay }
 {
     let scripts = share(alloc, &scenario.requests)?;
@@ -85,7 +91,8 @@ pub(crate) fn request_of(
 {
     let headers = script.headers.to_map(alloc)?;
     let ext = Ext {
-        number: Some(number),
+        number: Some(Number(number)),
+        id: None,
     };
     let mut request = Request::new(alloc, ScriptBody::default(), ext);
     request.head.parts.headers = headers;
@@ -110,9 +117,9 @@ pub fn call_stack<L: Recorder>(
     cx: &mut Cx<'_, L>,
 ) -> Got<DriveFuture<L>>
     requires { StackMay stack.old }
-    ensures called { (limits : LimitsView) (script : ScriptView) (i : ℕ) (acts : List Own) → IsNumbered i request → FreshAt limits script acts → StackStands limits script i stack.old
+    ensures called { (limits : LimitsView) (script : Numbered) (acts : List Own) → IsRequestOf script.script script.number request → FreshAt limits script acts → StackStands limits script stack.old
         → IfOk result (λ f. Called limits script acts cx.old.now (L.recorded cx.old.rec.now) f (L.recorded cx.new.rec.now)) }
-    ensures kept { (limits : LimitsView) (script : ScriptView) (i : ℕ) → StackStands limits script i stack.old → StackStands limits script i stack.new }
+    ensures kept { (limits : LimitsView) (script : Numbered) → StackStands limits script stack.old → StackStands limits script stack.new }
     ensures may { StackMay stack.new }
     ensures live { IfOk result FutureLive }
     ensures future_may { IfOk result FutureMay }
@@ -129,7 +136,7 @@ pub fn poll_future<L: Recorder>(
 ) -> Got<Poll<Result<Response<DriveBody, Ext>, Text>>>
     requires live { FutureLive future.old }
     requires may { FutureMay future.old }
-    ensures polled { (limits : LimitsView) (script : ScriptView) (acts : List Own) → FutureAt limits script acts future.old
+    ensures polled { (limits : LimitsView) (script : Numbered) (acts : List Own) → FutureAt limits script acts future.old
         → IfOk result (λ answer. FuturePolled limits script acts cx.old.now (L.recorded cx.old.rec.now) answer future.new (L.recorded cx.new.rec.now)) }
     ensures live { IfOk result (λ answer. OnPending answer (FutureLive future.new)) }
     ensures body { IfOk result (λ answer. IfReady answer (λ answer. IfOk answer (λ response. BodyMay response.body))) }
@@ -143,13 +150,13 @@ pub fn poll_future<L: Recorder>(
 /// error is want of memory, which comes only where the recorder had no room.
 pub fn abandon_future<L: Recorder>(future: DriveFuture<L>, cx: &mut Cx<'_, L>) -> Got<()>
     requires { FutureMay future }
-    ensures waiting { (limits : LimitsView) (script : ScriptView) (acts : List Own) → FutureAt limits script acts future
+    ensures waiting { (limits : LimitsView) (script : Numbered) (acts : List Own) → FutureAt limits script acts future
         → IfOk result (λ done. Grew (L.recorded cx.old.rec.now) (L.recorded cx.new.rec.now) (drops limits script acts cx.old.now)) }
-    ensures answered { (limits : LimitsView) (script : ScriptView) (acts : List Own) → FutureAnswered limits script acts future
+    ensures answered { (limits : LimitsView) (script : Numbered) (acts : List Own) → FutureAnswered limits script acts future
         → IfOk result (λ done. Grew (L.recorded cx.old.rec.now) (L.recorded cx.new.rec.now) []) }
-    ensures refused { (limits : LimitsView) (script : ScriptView) (acts : List Own) → FutureAt limits script acts future
+    ensures refused { (limits : LimitsView) (script : Numbered) (acts : List Own) → FutureAt limits script acts future
         → IfErr result (λ error. (L.recorded cx.old.rec.now).spare ≡ 0) }
-    ensures answered_refused { (limits : LimitsView) (script : ScriptView) (acts : List Own) → FutureAnswered limits script acts future
+    ensures answered_refused { (limits : LimitsView) (script : Numbered) (acts : List Own) → FutureAnswered limits script acts future
         → IfErr result (λ error. (L.recorded cx.old.rec.now).spare ≡ 0) }
     ensures context { SameContext L.place cx.old cx.new }
 {
@@ -163,7 +170,7 @@ pub fn poll_body<L: Recorder>(
     cx: &mut Cx<'_, L>,
 ) -> Got<Poll<Option<Result<Frame<Bytes>, BodyError<Text>>>>>
     requires { BodyMay body.old }
-    ensures polled { (limits : LimitsView) (script : ScriptView) (acts : List Own) → NotBefore cx.old.now acts → BodyAt limits script acts body.old
+    ensures polled { (limits : LimitsView) (script : Numbered) (acts : List Own) → NotBefore cx.old.now acts → BodyAt limits script acts body.old
         → IfOk result (λ answer. BodyPolled limits script acts cx.old.now (L.recorded cx.old.rec.now) answer body.new (L.recorded cx.new.rec.now)) }
     ensures may { BodyMay body.new }
     ensures context { SameContext L.place cx.old cx.new }
@@ -175,9 +182,9 @@ pub fn poll_body<L: Recorder>(
 /// memory, which comes only where the recorder had no room.
 pub fn abandon_body<L: Recorder>(body: DriveBody, cx: &mut Cx<'_, L>) -> Got<()>
     requires { BodyMay body }
-    ensures left { (limits : LimitsView) (script : ScriptView) (acts : List Own) → BodyAt limits script acts body
+    ensures left { (limits : LimitsView) (script : Numbered) (acts : List Own) → BodyAt limits script acts body
         → IfOk result (λ done. Grew (L.recorded cx.old.rec.now) (L.recorded cx.new.rec.now) (drops limits script acts cx.old.now)) }
-    ensures refused { (limits : LimitsView) (script : ScriptView) (acts : List Own) → BodyAt limits script acts body
+    ensures refused { (limits : LimitsView) (script : Numbered) (acts : List Own) → BodyAt limits script acts body
         → IfErr result (λ error. (L.recorded cx.old.rec.now).spare ≡ 0) }
     ensures context { SameContext L.place cx.old cx.new }
 {

@@ -1,14 +1,14 @@
 use Rattle.std.proofs.Common.{◌≡◌, List, ℕ, Result, Ok, Err, IfOk, sym, ap, ◌∙◌}
 use Rattle.life_core.specs.Recorded.{Recorded}
 use Rattle.life_core.specs.declared.recorder.NoMemory.{NoMemory}
-use Rattle.life_script.specs.ScriptView.{ScriptView}
+use Rattle.life_stack.specs.Ident.{Numbered}
 use Rattle.life_script.specs.declared.scenario.Limits.{Limits}
 use Rattle.life_stack.specs.Own.{Own}
 use Rattle.life_stack.specs.Exchanged.{Ended}
 use Rattle.life_stack.proofs.exchange.finish_at.Goals as goal
 
 -- the same end, where the record afterwards is the same
-ended_same : (limits : Limits) (script : ScriptView) (acts : List Own) (end : ℕ) (was now other : Recorded) (r : Result Unit NoMemory) → other ≡ now →
+ended_same : (limits : Limits) (script : Numbered) (acts : List Own) (end : ℕ) (was now other : Recorded) (r : Result Unit NoMemory) → other ≡ now →
     IfOk r (λ done. Ended limits script acts end was now) → IfOk r (λ done. Ended limits script acts end was other)
 ended_same limits script acts end was now other (Ok u) e h = record { log = ap (λ (x : Recorded). x.log) e ∙ h.log }
 ended_same limits script acts end was now other (Err x) e h = h

@@ -2,7 +2,9 @@ use Rattle.std.proofs.Common.{List, Some, refl, ap, ◌∙◌, subst, sym}
 use Rattle.std.proofs.lemmas.Option.{slice_get_read}
 use Rattle.std.specs.Prelude.{length, slice_index_or, ◌<◌, ℕ}
 use Rattle.life_stack.specs.Exchanged.{ExchangeAt}
+use Rattle.life_script.specs.ScriptView.{ScriptView}
 use Rattle.life_stack.specs.LiveAt.{MayGoOn}
+use Rattle.life_stack.specs.SessionView.{MovesOn}
 use Rattle.life_stack.specs.declared.exchange.Exchange.{Exchange}
 use Rattle.life_stack.proofs.Places.{set_here, set_twice, each_set}
 use Rattle.life_stack.proofs.Runs.{some_is}
@@ -30,7 +32,9 @@ returns-in-Ok-clause-ran c =
       c.in-Ok.exchange,
       slice_get_read old (length old) i c.index_mut.result.now refl c.requires.within c.index_mut.ensures.value ∙ ap (λ (e : Exchange). Some e) (sym c.replace-exchange.ensures.value),
       c.put.ensures ∙ set_twice old i c.replace-exchange.new.dest c.in-Ok.exchange,
-      c.in-Ok.ensures.ran,
+      (λ script is.
+        let there = slice_get_read c.args.scripts.now (length c.args.scripts.now) i c.index-scripts-i.result refl (subst (λ n. i < n) c.requires.scripted c.requires.within) c.index-scripts-i.is in
+        subst (λ (s : ScriptView). MovesOn c.args.stack.now c.args.step s c.replace-exchange.result c.in-Ok.exchange) (some_is (sym there ∙ is)) c.in-Ok.ensures.ran),
     )
 
 pub returns-in-Err-clause-ran : goal.returns-in-Err-clause-ran

@@ -1,8 +1,9 @@
-use Rattle.std.proofs.Common.{◌≡◌, ◌<◌, ◌≤◌, List, length, Some, ap, ◌∙◌, subst, sym}
+use Rattle.std.proofs.Common.{◌≡◌, ◌<◌, ◌≤◌, List, length, Ok, Some, ap, ◌∙◌, subst, sym}
 use Rattle.std.proofs.lemmas.Option.{slice_get-get_or}
 use Rattle.std.specs.Prelude.{slice_get}
 use Rattle.life_script.specs.declared.scenario.Step.{Step}
-use Rattle.life_stack.specs.SessionView.{SessionView}
+use Rattle.life_script.specs.ScriptView.{ScriptView}
+use Rattle.life_stack.specs.SessionView.{RunsOn, SessionView}
 use Rattle.life_stack.proofs.Places.{found, set_length}
 use Rattle.life_stack.proofs.Runs.{some_is}
 use Rattle.life_stack.proofs.Sessions.{session_at, session_may, session_next, session_room, session_within}
@@ -27,7 +28,7 @@ invariant_of-result c =
     let x = ap (λ (l : List Step). slice_get l c.self.inside.done) (sym c.as_slice.ensures) ∙ slice_get-get_or c.as_slice.result.now c.self.inside.done _ (subst (λ (l : List Step). c.self.inside.done < length l) (sym c.as_slice.ensures) here) in
     let ran = c.in-Ok.ensures.ran in
     let same = ap (λ l. length l) ran.3 ∙ set_length c.self.inside.exchanges.items _ ran.1 in (
-      session_next _ c.self.invariant.0 _ x c.run_step.new.stack c.run_step.new.exchanges.items c.run_step.ensures.may_stack c.run_step.ensures.kept ran,
+      session_next _ c.self.invariant.0 _ x c.run_step.new.stack c.run_step.new.exchanges.items c.run_step.ensures.may_stack c.run_step.ensures.kept _ (c.as_slice-2.ensures ∙ ap (λ l. l.items) c.deref.ensures) ran,
       c.self.invariant.1,
       subst (λ n. n ≤ c.self.inside.told.spare) (sym same) c.self.invariant.2,
     )

@@ -1,0 +1,5 @@
+pub mod Ids
+pub mod Lending
+pub mod Propagating
+pub mod Setting
+pub mod Stands

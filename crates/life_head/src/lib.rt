@@ -1,0 +1,4 @@
+//! Layers that read and write heads.
+#![tactic(auto)]
+
+pub mod request_id;

@@ -1,0 +1,114 @@
+//! The future of `PropagateRequestId`.
+ghost use Rattle.std.specs.Prelude.{◌≡◌, OnOk};
+ghost use Rattle.life_head.specs.Ids.{marked};
+
+use crate::request_id::id::RequestId;
+use crate::request_id::mark::{adopt, give};
+use http::header::{HeaderName, HeaderValue};
+use life_core::{
+    Cx, Future, Got, Poll, Recorder, Response, ResponseHead, Slot, Spend, first_value,
+};
+use std::alloc::Global;
+
+/// The future of `PropagateRequestId`.
+pub struct PropagateRequestIdResponseFuture<F> {
+    inner: F,
+    header_name: HeaderName,
+    /// The first value of the request's header.
+    kept: Option<HeaderValue>,
+}
+
+impl<F> PropagateRequestIdResponseFuture<F> {
+    /// A future that puts the kept value into its response.
+    pub(crate) fn new(
+        inner: F,
+        header_name: HeaderName,
+        kept: Option<HeaderValue>,
+    ) -> PropagateRequestIdResponseFuture<F>
+        ensures { result ≡ record { inner = inner; header_name = header_name; kept = kept } }
+    {
+        PropagateRequestIdResponseFuture {
+            inner,
+            header_name,
+            kept,
+        }
+    }
+}
+
+/// Gives the response its id. The one error is want of memory.
+fn mark<X: Slot<RequestId>>(
+    alloc: Global,
+    name: &HeaderName,
+    kept: Option<HeaderValue>,
+    head: &mut ResponseHead<X>,
+) -> Got<()>
+    ensures { OnOk result (head.new ≡ marked X.holds X.after name.now kept head.old) }
+{
+    match first_value(&head.parts.headers, name) {
+        Ok(Some(value)) => {
+            adopt(&mut head.ext, value);
+            Ok(())
+        }
+        Ok(None) => match kept {
+            Some(value) => give(alloc, &mut head.parts.headers, &mut head.ext, name, value),
+            None => Ok(()),
+        },
+        Err(no_memory) => Err(no_memory),
+    }
+}
+
+impl<F: Spend<L>, L: Recorder> Spend<L> for PropagateRequestIdResponseFuture<F> {
+    ghost use Rattle.life_head.specs.Propagating.{PropagateFutureMay, PropagateLeaves};
+
+    ghost may = { PropagateFutureMay F.may };
+
+    ghost leaves = { PropagateLeaves F.leaves };
+
+    fn abandon(self, cx: &mut Cx<'_, L>) -> Got<()> {
+        let PropagateRequestIdResponseFuture {
+            inner,
+            header_name: _,
+            kept: _,
+        } = self;
+        inner.abandon(cx)
+    }
+}
+
+impl<F, L, B, X, E> Future<L> for PropagateRequestIdResponseFuture<F>
+where
+    L: Recorder,
+    F: Future<L, Output = Result<Response<B, X>, E>>,
+    B: Spend<L>,
+    X: Slot<RequestId> + Drop,
+{
+    type Output = Result<Response<B, X>, E>;
+
+    ghost use Rattle.life_head.specs.Propagating.{PropagateFutureMay, PropagatePolls};
+
+    ghost live = { PropagateFutureMay F.live };
+
+    ghost polls = { PropagatePolls F.polls B.leaves X.holds X.after };
+
+    fn poll(&mut self, cx: &mut Cx<'_, L>) -> Got<Poll<Result<Response<B, X>, E>>> {
+        let mut asking = Cx {
+            now: cx.now,
+            span: cx.span,
+            alloc: cx.alloc,
+            rec: &mut *cx.rec,
+        };
+        match self.inner.poll(&mut asking) {
+            Ok(Poll::Ready(Ok(Response { mut head, body }))) => {
+                match mark(cx.alloc, &self.header_name, self.kept.take(), &mut head) {
+                    Ok(()) => Ok(Poll::Ready(Ok(Response { head, body }))),
+                    Err(no_memory) => {
+                        let _ = body.abandon(cx);
+                        Err(no_memory)
+                    }
+                }
+            }
+            Ok(Poll::Ready(Err(error))) => Ok(Poll::Ready(Err(error))),
+            Ok(Poll::Pending) => Ok(Poll::Pending),
+            Err(no_memory) => Err(no_memory),
+        }
+    }
+}

@@ -1,0 +1,222 @@
+//! Gives each request an id.
+ghost use Rattle.std.specs.Prelude.{◌≡◌};
+ghost use Rattle.life_head.specs.Setting.{Tags};
+
+use crate::request_id::id::{MakeRequestId, RequestId};
+use crate::request_id::mark::{adopt, give};
+use http::header::HeaderName;
+use life_core::{
+    Cx, Got, Layer, Poll, Recorder, Request, Service, Slot, Spend, Twin, first_value,
+    give_up_request,
+};
+use std::alloc::Global;
+
+/// Makes `SetRequestId` services.
+#[derive(Drop)]
+pub struct SetRequestIdLayer<M> {
+    header_name: HeaderName,
+    make_request_id: M,
+}
+
+impl<M> SetRequestIdLayer<M> {
+    ghost use Rattle.life_head.specs.Ids.{x_request_id_name};
+    ghost use Rattle.life_head.specs.Setting.{set_layer};
+
+    /// The layer for ids under this name, from this maker.
+    pub fn new(header_name: HeaderName, make_request_id: M) -> SetRequestIdLayer<M>
+        ensures { result ≡ set_layer header_name make_request_id }
+    {
+        SetRequestIdLayer {
+            header_name,
+            make_request_id,
+        }
+    }
+
+    /// The layer for ids under `x-request-id`. It takes no memory.
+    pub fn x_request_id(make_request_id: M) -> Got<SetRequestIdLayer<M>>
+        ensures { result ≡ Ok (set_layer x_request_id_name make_request_id) }
+    {
+        let header_name = HeaderName::from_static("x-request-id");
+        Ok(SetRequestIdLayer::new(header_name, make_request_id))
+    }
+}
+
+impl<S, M: Twin> Layer<S> for SetRequestIdLayer<M> {
+    type Service = SetRequestId<S, M>;
+
+    ghost use Rattle.life_head.specs.Setting.{set_round};
+
+    ghost round = { set_round };
+
+    fn layer(&self, alloc: Global, inner: S) -> Got<SetRequestId<S, M>>
+    where
+        S: Drop,
+    {
+        let header_name = self.header_name.twin(alloc)?;
+        let make_request_id = self.make_request_id.twin(alloc)?;
+        Ok(SetRequestId::new(inner, header_name, make_request_id))
+    }
+}
+
+impl<M: Twin> Twin for SetRequestIdLayer<M> {
+    fn twin(&self, alloc: Global) -> Got<SetRequestIdLayer<M>> {
+        let header_name = self.header_name.twin(alloc)?;
+        let make_request_id = self.make_request_id.twin(alloc)?;
+        Ok(SetRequestIdLayer::new(header_name, make_request_id))
+    }
+}
+
+/// Gives each request without the header an id, in header and extension. Where the header is there, its
+/// first value is the id of an extension that has none.
+#[derive(Drop)]
+pub struct SetRequestId<S, M> {
+    inner: S,
+    header_name: HeaderName,
+    make_request_id: M,
+}
+
+impl<S, M> SetRequestId<S, M> {
+    ghost use Rattle.std.specs.Borrow.{sem};
+    ghost use Rattle.life_head.specs.Ids.{x_request_id_name};
+    ghost use Rattle.life_head.specs.Setting.{set_layer, set_service, set_inner};
+    ghost use Rattle.life_head.specs.Lending.{LendsSetInner};
+
+    /// The service with ids under this name, from this maker.
+    pub fn new(inner: S, header_name: HeaderName, make_request_id: M) -> SetRequestId<S, M>
+        ensures { result ≡ set_service inner header_name make_request_id }
+    {
+        SetRequestId {
+            inner,
+            header_name,
+            make_request_id,
+        }
+    }
+
+    /// The service with ids under `x-request-id`. It takes no memory.
+    pub fn x_request_id(inner: S, make_request_id: M) -> Got<SetRequestId<S, M>>
+        ensures { result ≡ Ok (set_service inner x_request_id_name make_request_id) }
+    {
+        let header_name = HeaderName::from_static("x-request-id");
+        Ok(SetRequestId::new(inner, header_name, make_request_id))
+    }
+
+    /// The layer for ids under this name, from this maker.
+    pub fn layer(header_name: HeaderName, make_request_id: M) -> SetRequestIdLayer<M>
+        ensures { result ≡ set_layer header_name make_request_id }
+    {
+        SetRequestIdLayer::new(header_name, make_request_id)
+    }
+
+    /// The inner service.
+    pub fn get_ref(&self) -> &S
+        ensures { result.now ≡ set_inner self.now }
+    {
+        &self.inner
+    }
+
+    /// The inner service, to be changed.
+    pub fn get_mut(&mut self) -> &mut S
+        ensures* writes_back { sem 𝓛 (LendsSetInner S.row M.row self.entry result) }
+        ensures value { result.now ≡ set_inner self.old }
+    {
+        &mut self.inner
+    }
+
+    /// The inner service. The maker is dropped.
+    pub fn into_inner(self) -> S
+    where
+        M: Drop,
+        ensures { result ≡ set_inner self }
+    {
+        let SetRequestId {
+            inner,
+            header_name: _,
+            make_request_id: _,
+        } = self;
+        inner
+    }
+}
+
+impl<S: Twin + Drop, M: Twin> Twin for SetRequestId<S, M> {
+    fn twin(&self, alloc: Global) -> Got<SetRequestId<S, M>> {
+        let inner = self.inner.twin(alloc)?;
+        let header_name = self.header_name.twin(alloc)?;
+        let make_request_id = self.make_request_id.twin(alloc)?;
+        Ok(SetRequestId::new(inner, header_name, make_request_id))
+    }
+}
+
+/// Gives the request its id. The one error is want of memory.
+fn tag<M, B, X>(
+    alloc: Global,
+    maker: &mut M,
+    name: &HeaderName,
+    request: &mut Request<B, X>,
+) -> Got<()>
+where
+    M: MakeRequestId<B, X>,
+    X: Slot<RequestId>,
+    requires { M.may maker.old }
+    ensures tags { Tags M.makes X.holds X.after name.now maker.old request.old result maker.new request.new }
+    ensures body { request.new.body ≡ request.old.body }
+    ensures may { M.may maker.new }
+{
+    match first_value(&request.head.parts.headers, name) {
+        Ok(Some(value)) => {
+            adopt(&mut request.head.ext, value);
+            Ok(())
+        }
+        Ok(None) => match maker.make_request_id(alloc, &*request) {
+            Ok(Some(id)) => give(
+                alloc,
+                &mut request.head.parts.headers,
+                &mut request.head.ext,
+                name,
+                id.into_header_value(),
+            ),
+            Ok(None) => Ok(()),
+            Err(no_memory) => Err(no_memory),
+        },
+        Err(no_memory) => Err(no_memory),
+    }
+}
+
+impl<S, M, B, X, L> Service<Request<B, X>, L> for SetRequestId<S, M>
+where
+    L: Recorder,
+    S: Service<Request<B, X>, L>,
+    M: MakeRequestId<B, X>,
+    B: Spend<L>,
+    X: Slot<RequestId> + Drop,
+{
+    type Response = S::Response;
+
+    type Error = S::Error;
+
+    type Future = S::Future;
+
+    ghost use Rattle.life_head.specs.Setting.{SetMay, SetReadies, SetCalls};
+
+    ghost may = { SetMay S.may M.may };
+
+    ghost readies = { SetReadies S.readies };
+
+    ghost calls = { SetCalls S.calls M.makes X.holds X.after B.leaves };
+
+    fn poll_ready(&mut self, cx: &mut Cx<'_, L>) -> Poll<Result<(), S::Error>> {
+        self.inner.poll_ready(cx)
+    }
+
+    fn call(&mut self, req: Request<B, X>, cx: &mut Cx<'_, L>) -> Got<S::Future> {
+        let mut req = req;
+        match tag(
+            cx.alloc,
+            &mut self.make_request_id,
+            &self.header_name,
+            &mut req,
+        ) {
+            Ok(()) => self.inner.call(req, cx),
+            Err(_) => Err(give_up_request(req, cx)),
+        }
+    }
+}

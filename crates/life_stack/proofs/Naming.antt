@@ -1,0 +1,78 @@
+-- What the layers of ids make of a request and of a response's head.
+use Rattle.std.proofs.Common.{◌≡◌, ◌≤◌, ℕ, List, [], ◌∷◌, ◌++◌, length, Option, Some, None, Ok, Result, refl, sym, ap, ◌∙◌, subst, option_map, decimal}
+use Rattle.std.specs.Prelude.{unwrap_or, ⊤}
+use Rattle.http_header.specs.FieldValue.{FieldValue, plain_value}
+use Rattle.http_header.specs.HeaderMap.{Entries, get}
+use Rattle.life_core.specs.Header.{is_full_for, put_in}
+use Rattle.life_core.specs.declared.message.Request.{Request}
+use Rattle.life_core.specs.declared.message.ResponseHead.{ResponseHead}
+use Rattle.life_core.specs.declared.recorder.NoMemory.{NoMemory}
+use Rattle.life_head.specs.Ids.{NumberMakes, id_of, id_of_number, marked, marked_by, or_else, tagged, tagged_by, value_of, x_request_id_name}
+use Rattle.life_head.specs.Setting.{Tags}
+use Rattle.life_head.specs.Stands.{AsksWith, first_of}
+use Rattle.life_head.specs.declared.request_id.id.RequestId.{RequestId}
+use Rattle.life_head.specs.declared.request_id.number.ByNumber.{ByNumber}
+use Rattle.life_head.specs.declared.request_id.number.Number.{Number}
+use Rattle.life_head.proofs.RequestIdFollows.{tagged_is, tagged_value}
+use Rattle.life_script.specs.Headers.{Headers, added_to, first_value, map_of, with_missing}
+use Rattle.life_script.specs.Valid.{ScriptFits}
+use Rattle.life_script.specs.declared.checks.TheConstants.{MAX_HEADER_VALUES}
+use Rattle.life_script.proofs.HeaderMaps.{get_map, map_has_room, put_missing}
+use Rattle.life_stack.specs.Driven.{Head, Heads, TellsHead, named}
+use Rattle.life_stack.specs.Ident.{Numbered, ident, identified}
+use Rattle.life_stack.specs.Script.{IsNumbered, IsRequestOf, ext_id, ext_number, with_id}
+use Rattle.life_stack.specs.declared.ext.Ext.{Ext}
+use Rattle.life_stack.specs.declared.script_service.ScriptBody.{ScriptBody}
+
+-- A response's head gets the id where it has none.
+
+marked_case : (x : Option FieldValue) (id : FieldValue) (h : Head) (head : ResponseHead Ext) → length h.1 ≤ MAX_HEADER_VALUES → head.parts.status ≡ h.0 → head.parts.headers ≡ map_of h.1 →
+    first_value x_request_id_name h.1 ≡ x → TellsHead (h.0, added_to x x_request_id_name id h.1) (marked_by ext_id with_id x (Some id) x_request_id_name head)
+marked_case (Some v) id h head short status headers is = record { status_is = status; headers_are = headers }
+marked_case None id h head short status headers is = record {
+  status_is = status;
+  headers_are = ap (λ (m : Entries FieldValue). put_in m x_request_id_name id) headers ∙ put_missing x_request_id_name id h.1 short is;
+}
+
+pub head_named : (id : FieldValue) (h : Head) (head : ResponseHead Ext) → Heads h head → TellsHead (named id h) (marked ext_id with_id x_request_id_name (Some id) head)
+head_named id h head k =
+    let found : get head.parts.headers x_request_id_name ≡ first_value x_request_id_name h.1 = ap (λ (m : Entries FieldValue). get m x_request_id_name) (k.0).headers_are ∙ get_map x_request_id_name h.1 in
+    subst (λ x. TellsHead (named id h) (marked_by ext_id with_id x (Some id) x_request_id_name head)) (sym found)
+    (marked_case (first_value x_request_id_name h.1) id h head k.1 (k.0).status_is (k.0).headers_are refl)
+
+-- A request gets an id where it brings none, and keeps its number.
+
+adopted_number : (o : Option RequestId) (e : Ext) (id : RequestId) → (or_else o (with_id e id) e).number ≡ e.number
+adopted_number None e id = refl
+adopted_number (Some there) e id = refl
+
+number_kept : (x : Option FieldValue) (given : Option RequestId) (req : Request ScriptBody Ext) → (tagged_by ext_id with_id x given x_request_id_name req).head.ext.number ≡ req.head.ext.number
+number_kept (Some v) given req = adopted_number req.head.ext.id req.head.ext (id_of v)
+number_kept None None req = refl
+number_kept None (Some id) req = refl
+
+first_is : (o : Option FieldValue) (v : FieldValue) → first_of o (Some v) ≡ Some (unwrap_or o v)
+first_is (Some there) v = refl
+first_is None v = refl
+
+-- the maker gives the number in decimal
+made_number : (i : ℕ) (maker new : ByNumber) (req : Request ScriptBody Ext) → IsNumbered i req → (made : Option RequestId) → NumberMakes ext_number maker req (Ok made) new → made ≡ Some (id_of (plain_value (decimal i)))
+made_number i maker new req n made k = k.0 ∙ ap id_of_number n
+
+-- the request that the inner service is called with
+pub request_named : (script : Numbered) (maker : ByNumber) (req : Request ScriptBody Ext) (maker_new : ByNumber) (new : Request ScriptBody Ext) → ⊤ → IsRequestOf script.script script.number req × ScriptFits script.script →
+    Tags (NumberMakes ext_number) ext_id with_id x_request_id_name maker req (Ok tt) maker_new new → AsksWith x_request_id_name (Some (ident script)) (IsNumbered script.number) new
+request_named script maker req maker_new new keeps q t =
+    let given : Option RequestId = Some (id_of (plain_value (decimal script.number))) in
+    let new_is : new ≡ tagged ext_id with_id x_request_id_name given req =
+    tagged_is (NumberMakes ext_number) ext_id with_id x_request_id_name maker req maker_new new given (made_number script.number maker maker_new req (q.0).numbered) t in
+    let room : is_full_for req.head.parts.headers x_request_id_name ≡ _ = ap (λ (m : Entries FieldValue). is_full_for m x_request_id_name) (q.0).headers_are ∙ map_has_room x_request_id_name script.script.headers (q.1).headers in
+    let found : get req.head.parts.headers x_request_id_name ≡ first_value x_request_id_name script.script.headers =
+    ap (λ (m : Entries FieldValue). get m x_request_id_name) (q.0).headers_are ∙ get_map x_request_id_name script.script.headers in
+    (
+      ap (λ (r : Request ScriptBody Ext). r.head.ext.number) new_is ∙ number_kept (get req.head.parts.headers x_request_id_name) given req ∙ (q.0).numbered,
+      ap (λ (r : Request ScriptBody Ext). get r.head.parts.headers x_request_id_name) new_is
+      ∙ tagged_value ext_id with_id x_request_id_name given req room
+      ∙ ap (λ o. first_of o (Some (plain_value (decimal script.number)))) found
+      ∙ first_is (first_value x_request_id_name script.script.headers) (plain_value (decimal script.number)),
+    )
