@@ -60,7 +60,7 @@ stack_follows limits script = set_serves _ (NumberMakes ext_number) ext_id with_
 -- whatever is asked, the stack stands for what it stood for
 pub stack_keeps : (limits : Limits) (script : Numbered) → ServiceFollows {R = Request ScriptBody Ext} drive_calls (λ r. Unit) (StackStands limits script)
     (λ t0. DropStands (noting drop_kind.Future t0) t0 (DeadlineStands limits.body_deadline
-      (TimeoutStands (record { start = t0; length = limits.timeout }) limits.timeout_status (λ (f : PropagateRequestIdResponseFuture ScriptFuture) (w : Where). Unit)))) []
+    (TimeoutStands (record { start = t0; length = limits.timeout }) limits.timeout_status (λ (f : PropagateRequestIdResponseFuture ScriptFuture) (w : Where). Unit)))) []
 stack_keeps limits script = set_serves _ (NumberMakes ext_number) ext_id with_id ScriptLeaves (λ r. Unit) _ _ _ (λ _. ⊤) (λ maker req made new k m. tt) x_request_id_name (λ r. Unit) (λ maker req maker_new new k q t. tt)
     (drop_serves _ _ _ _ _ _ _ _ note_future _ _ note_start
     (deadline_serves _ _ _ _ _ (timeout_serves _ _ _ _ _

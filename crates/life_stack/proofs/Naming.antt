@@ -68,11 +68,10 @@ request_named script maker req maker_new new keeps q t =
     tagged_is (NumberMakes ext_number) ext_id with_id x_request_id_name maker req maker_new new given (made_number script.number maker maker_new req (q.0).numbered) t in
     let room : is_full_for req.head.parts.headers x_request_id_name ≡ _ = ap (λ (m : Entries FieldValue). is_full_for m x_request_id_name) (q.0).headers_are ∙ map_has_room x_request_id_name script.script.headers (q.1).headers in
     let found : get req.head.parts.headers x_request_id_name ≡ first_value x_request_id_name script.script.headers =
-    ap (λ (m : Entries FieldValue). get m x_request_id_name) (q.0).headers_are ∙ get_map x_request_id_name script.script.headers in
-    (
+    ap (λ (m : Entries FieldValue). get m x_request_id_name) (q.0).headers_are ∙ get_map x_request_id_name script.script.headers in (
       ap (λ (r : Request ScriptBody Ext). r.head.ext.number) new_is ∙ number_kept (get req.head.parts.headers x_request_id_name) given req ∙ (q.0).numbered,
       ap (λ (r : Request ScriptBody Ext). get r.head.parts.headers x_request_id_name) new_is
-      ∙ tagged_value ext_id with_id x_request_id_name given req room
-      ∙ ap (λ o. first_of o (Some (plain_value (decimal script.number)))) found
-      ∙ first_is (first_value x_request_id_name script.script.headers) (plain_value (decimal script.number)),
+          ∙ tagged_value ext_id with_id x_request_id_name given req room
+          ∙ ap (λ o. first_of o (Some (plain_value (decimal script.number)))) found
+          ∙ first_is (first_value x_request_id_name script.script.headers) (plain_value (decimal script.number)),
     )

@@ -6,11 +6,11 @@ ghost use Rattle.life_stack.specs.Script.{ScriptCalls, ScriptReadies, ScriptPoll
 use crate::ext::Ext;
 use bytes::Bytes;
 use http_body::{Frame, SizeHint};
-use life_head::request_id::Number;
 use life_core::{
     Body, Cx, DefaultBody, Future, Got, List, NoMemory, Poll, Recorder, Request, Response,
     ResponseHead, Service, Spend, Text, Twin, give_up_request,
 };
+use life_head::request_id::Number;
 use life_script::{BodyItem, BodyItems, PollItems, Reply, Scripts, Then};
 use std::alloc::Global;
 use std::rc::Rc;

@@ -75,7 +75,7 @@ fn whole_texts(rt: HostRuntime) -> Result<(), Fail> {
                 (5, 0, Act::Drop),
             ],
             5,
-            "step 0 at 0 request 0 call: called\nstep 1 at 3 request 0 poll: response 200 open {}\nstep 2 at 4 request 0 poll: data \"hi\" ended\nstep 3 at 5 request 0 drop: dropped\ntotal: 2 requests, 4 steps, end 5\n",
+            "step 0 at 0 request 0 call: called\nstep 1 at 3 request 0 poll: response 200 open {x-request-id: [\"0\"]}\nstep 2 at 4 request 0 poll: data \"hi\" ended\nstep 3 at 5 request 0 drop: dropped\ntotal: 2 requests, 4 steps, end 5\n",
         ),
         (
             &[

@@ -133,7 +133,7 @@ fn driven_scenarios(rt: HostRuntime) -> Result<(), Fail> {
             HI,
             READ,
             5,
-            "step 0 at 0 request 0 call: called\nstep 1 at 3 request 0 poll: response 200 open {}\nstep 2 at 4 request 0 poll: data \"hi\" ended\nstep 3 at 5 request 0 drop: dropped\ntotal: 1 requests, 4 steps, end 5\n",
+            "step 0 at 0 request 0 call: called\nstep 1 at 3 request 0 poll: response 200 open {x-request-id: [\"0\"]}\nstep 2 at 4 request 0 poll: data \"hi\" ended\nstep 3 at 5 request 0 drop: dropped\ntotal: 1 requests, 4 steps, end 5\n",
         ),
         (
             "timed out",
@@ -154,7 +154,7 @@ fn driven_scenarios(rt: HostRuntime) -> Result<(), Fail> {
             r#"{"headers":[],"polls":[{"then":{"respond":{"status":200,"headers":[],"body":[],"tells":true}}}]},{"headers":[],"polls":[{"then":{"respond":{"status":200,"headers":[],"body":[],"tells":true}}}]}"#,
             r#"[[0,0,"call"],[1,1,"call"],[2,1,"poll"],[3,0,"poll"]]"#,
             3,
-            "step 0 at 0 request 0 call: called\nstep 1 at 1 request 1 call: called\nstep 2 at 2 request 1 poll: response 200 ended {}\nstep 3 at 3 request 0 poll: response 200 ended {}\ntotal: 2 requests, 4 steps, end 3\n",
+            "step 0 at 0 request 0 call: called\nstep 1 at 1 request 1 call: called\nstep 2 at 2 request 1 poll: response 200 ended {x-request-id: [\"1\"]}\nstep 3 at 3 request 0 poll: response 200 ended {x-request-id: [\"0\"]}\ntotal: 2 requests, 4 steps, end 3\n",
         ),
     ];
     report(&rt, &rows)?;
@@ -173,14 +173,14 @@ fn early_drops(rt: HostRuntime) -> Result<(), Fail> {
             waits,
             r#"[[0,0,"call"],[1,0,"poll"],[6,0,"drop"]]"#,
             6,
-            "step 0 at 0 request 0 call: called\nstep 1 at 1 request 0 poll: response 201 open {}\nstep 2 at 6 request 0 drop: dropped\n  dropped body 201 latency 6 ns\ntotal: 1 requests, 3 steps, end 6\n",
+            "step 0 at 0 request 0 call: called\nstep 1 at 1 request 0 poll: response 201 open {x-request-id: [\"0\"]}\nstep 2 at 6 request 0 drop: dropped\n  dropped body 201 latency 6 ns\ntotal: 1 requests, 3 steps, end 6\n",
         ),
         (
             "dropped after a poll of its body",
             tells,
             r#"[[0,0,"call"],[1,0,"poll"],[2,0,"poll"],[3,0,"drop"]]"#,
             3,
-            "step 0 at 0 request 0 call: called\nstep 1 at 1 request 0 poll: response 201 open {}\nstep 2 at 2 request 0 poll: pending\nstep 3 at 3 request 0 drop: dropped\n  dropped body 201 latency 3 ns\ntotal: 1 requests, 4 steps, end 3\n",
+            "step 0 at 0 request 0 call: called\nstep 1 at 1 request 0 poll: response 201 open {x-request-id: [\"0\"]}\nstep 2 at 2 request 0 poll: pending\nstep 3 at 3 request 0 drop: dropped\n  dropped body 201 latency 3 ns\ntotal: 1 requests, 4 steps, end 3\n",
         ),
         (
             "nothing to do",
@@ -214,7 +214,21 @@ fn faults_and_headers(rt: HostRuntime) -> Result<(), Fail> {
             faults,
             r#"[[0,0,"call"],[1,0,"poll"],[2,0,"poll"],[3,0,"poll"],[4,0,"drop"]]"#,
             4,
-            "step 0 at 0 request 0 call: called\nstep 1 at 1 request 0 poll: response 200 open {}\nstep 2 at 2 request 0 poll: fault inner \"bad\"\nstep 3 at 3 request 0 poll: end\nstep 4 at 4 request 0 drop: dropped\ntotal: 1 requests, 5 steps, end 4\n",
+            "step 0 at 0 request 0 call: called\nstep 1 at 1 request 0 poll: response 200 open {x-request-id: [\"0\"]}\nstep 2 at 2 request 0 poll: fault inner \"bad\"\nstep 3 at 3 request 0 poll: end\nstep 4 at 4 request 0 drop: dropped\ntotal: 1 requests, 5 steps, end 4\n",
+        ),
+        (
+            "an id of the service's own",
+            r#"{"headers":[],"polls":[{"then":{"respond":{"status":200,"headers":[["x-request-id","foo"]],"body":[],"tells":true}}}]}"#,
+            r#"[[0,0,"call"],[1,0,"poll"]]"#,
+            1,
+            "step 0 at 0 request 0 call: called\nstep 1 at 1 request 0 poll: response 200 ended {x-request-id: [\"foo\"]}\ntotal: 1 requests, 2 steps, end 1\n",
+        ),
+        (
+            "an id that the request brings",
+            r#"{"headers":[["a","1"],["X-Request-Id","bar"],["x-request-id","baz"]],"polls":[{"then":{"respond":{"status":200,"headers":[],"body":[],"tells":true}}}]}"#,
+            r#"[[0,0,"call"],[1,0,"poll"]]"#,
+            1,
+            "step 0 at 0 request 0 call: called\nstep 1 at 1 request 0 poll: response 200 ended {x-request-id: [\"bar\"]}\ntotal: 1 requests, 2 steps, end 1\n",
         ),
         (
             "headers and trailers",
@@ -338,7 +352,7 @@ fn drives_without_a_source(rt: HostRuntime) -> Result<(), Fail> {
     assert!(rt; told.at_end.is_empty());
     let wants = [
         "called",
-        "response 200 open {}",
+        "response 200 open {x-request-id: [\"0\"]}",
         "data \"hi\" ended",
         "dropped",
     ];

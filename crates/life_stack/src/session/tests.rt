@@ -4,7 +4,8 @@ use crate::driving::drive;
 use http::{HeaderName, HeaderValue, StatusCode};
 use life_core::{Got, List};
 use life_script::{
-    Act, DriveError, HeaderList, Limits, PollItem, Reply, Scenario, Script, Step, Then, answer_text,
+    Act, DriveError, HeaderList, Limits, PollItem, Reply, Scenario, Script, Step, Then,
+    answer_text, event_text,
 };
 use std::alloc::Global;
 use std::process::Abort;
@@ -91,13 +92,23 @@ fn interleaved_requests(rt: HostRuntime) -> Result<(), Fail> {
         (4, 1, Act::Drop),
     ];
     let two = scenario(alloc, 2, &made, 5)?;
-    runs(&rt, alloc, &two, 0, &["called", "response 200 ended {}"])?;
+    runs(
+        &rt,
+        alloc,
+        &two,
+        0,
+        &["called", "response 200 ended {x-request-id: [\"0\"]}"],
+    )?;
     runs(
         &rt,
         alloc,
         &two,
         1,
-        &["called", "response 200 ended {}", "dropped"],
+        &[
+            "called",
+            "response 200 ended {x-request-id: [\"1\"]}",
+            "dropped",
+        ],
     )
 }
 
@@ -132,7 +143,12 @@ fn too_many_headers(rt: HostRuntime) -> Result<(), Fail> {
     let driven = with_headers(alloc, 1000, 1)?;
     let report = drive(alloc, &limits(), &driven)?;
     assert!(rt; 1 < report.requests());
-    assert_eq!(rt; report.told(1).turns.len(), 1);
-    assert_eq!(rt; report.told(1).at_end.len(), 1);
+    let told = report.told(1);
+    assert_eq!(rt; told.turns.len(), 1);
+    assert_eq!(rt; told.at_end.len(), 1);
+    for event in told.at_end.as_slice() {
+        let text = event_text(alloc, event)?;
+        assert_eq!(rt; text.as_slice(), b"dropped future latency 1 ns".as_slice());
+    }
     Ok(())
 }

@@ -33,8 +33,8 @@ returns-in-Ok-clause-ran c =
       slice_get_read old (length old) i c.index_mut.result.now refl c.requires.within c.index_mut.ensures.value ∙ ap (λ (e : Exchange). Some e) (sym c.replace-exchange.ensures.value),
       c.put.ensures ∙ set_twice old i c.replace-exchange.new.dest c.in-Ok.exchange,
       (λ script is.
-        let there = slice_get_read c.args.scripts.now (length c.args.scripts.now) i c.index-scripts-i.result refl (subst (λ n. i < n) c.requires.scripted c.requires.within) c.index-scripts-i.is in
-        subst (λ (s : ScriptView). MovesOn c.args.stack.now c.args.step s c.replace-exchange.result c.in-Ok.exchange) (some_is (sym there ∙ is)) c.in-Ok.ensures.ran),
+          let there = slice_get_read c.args.scripts.now (length c.args.scripts.now) i c.index-scripts-i.result refl (subst (λ n. i < n) c.requires.scripted c.requires.within) c.index-scripts-i.is in
+          subst (λ (s : ScriptView). MovesOn c.args.stack.now c.args.step s c.replace-exchange.result c.in-Ok.exchange) (some_is (sym there ∙ is)) c.in-Ok.ensures.ran),
     )
 
 pub returns-in-Err-clause-ran : goal.returns-in-Err-clause-ran
