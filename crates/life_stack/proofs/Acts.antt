@@ -9,7 +9,7 @@ use Rattle.life_script.specs.declared.scenario.Limits.{Limits}
 use Rattle.life_stack.specs.Own.{Own, NotBefore, called_at, after_call, polls_before_drop, first_drop, polls, dropped_at}
 use Rattle.life_stack.specs.Story.{answer, answers_after, answers, is_ending, any_ending, kind_after, kind_of}
 
-none≢some : {A : Type 0} {x : A} → None ≡ Some x → ⊥
+pub none≢some : {A : Type 0} {x : A} → None ≡ Some x → ⊥
 none≢some e = cc
 
 -- called before

@@ -13,15 +13,10 @@ use Rattle.life_stack.specs.Driven.{BodyPlan, Head}
 use Rattle.life_stack.specs.Own.{Own, called_at, dropped_at, polls, polls_before_drop}
 use Rattle.life_stack.specs.StandsAt.{IsGone}
 use Rattle.life_stack.specs.Story.{Outcome, Replied, Failed, head, by_head, on_poll, answer, answers, is_ending, any_ending, drops_at, drops, unless_dropped, at_end}
-use Rattle.life_stack.proofs.Acts.{called_kept, called_now, after_now, poll_uncalled, drop_uncalled, polls_after_call, polls_after_poll, polls_after_drop, polls_after_dropped, answers_push, any_ending_push}
+use Rattle.life_stack.proofs.Acts.{none≢some, called_kept, called_now, after_now, poll_uncalled, drop_uncalled, polls_after_call, polls_after_poll, polls_after_drop, polls_after_dropped, answers_push, any_ending_push}
 use Rattle.life_stack.proofs.Answering.{answer_at_head, head_said, timed_says}
 use Rattle.life_stack.proofs.Heads.{head_kept, head_of, no_head}
-
-some_is : {A : Type 0} {a b : A} → ◌≡◌ {A = Option A} (Some a) (Some b) → a ≡ b
-some_is e = cc
-
-none≢some : {A : Type 0} {x : A} → None ≡ Some x → ⊥
-none≢some e = cc
+use Rattle.life_stack.proofs.Runs.{some_is}
 
 apart : (r : ReplyView) (error : List ℕ) → Replied r ≡ Failed error → ⊥
 apart r error e = cc
