@@ -1,3 +1,4 @@
+pub mod Bodies
 pub mod Due
 pub mod FieldLaws
 pub mod FieldPlaces

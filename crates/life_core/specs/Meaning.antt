@@ -2,7 +2,7 @@ use Rattle.std.specs.Prelude.{◌≡◌, Option, Some, None, Result, Ok, Err, �
 use Rattle.http_body.specs.declared.frame.Frame.{Frame}
 use Rattle.life_core.specs.declared.message.Response.{Response}
 use Rattle.life_core.specs.declared.body.BodyError.{BodyError}
-use Rattle.life_core.specs.declared.body.BodyError.TheVariants.{Elapsed, Inner}
+use Rattle.life_core.specs.declared.body.BodyError.TheVariants.{Elapsed, LengthLimit, Inner}
 use Rattle.life_core.specs.declared.poll.Poll.{Poll}
 use Rattle.life_core.specs.declared.poll.Poll.TheVariants.{Ready, Pending}
 use Rattle.life_core.specs.declared.recorder.NoMemory.{NoMemory}
@@ -57,6 +57,7 @@ PollsWithin polls (Some f) was m answer (Some g) now = polls f was m answer g no
 abbrev pub WrapsFaults : {B D E : Type 0} → Frames B D E → B → Recorded → Moment → Answer D (BodyError E) → B → Recorded → Type 0
 WrapsFaults frames old was m (Ok (Ready (Some (Ok f)))) new now = frames old was m (Ok (Ready (Some (Ok f)))) new now
 WrapsFaults frames old was m (Ok (Ready (Some (Err Elapsed)))) new now = ⊥
+WrapsFaults frames old was m (Ok (Ready (Some (Err LengthLimit)))) new now = ⊥
 WrapsFaults frames old was m (Ok (Ready (Some (Err (Inner e))))) new now = frames old was m (Ok (Ready (Some (Err e)))) new now
 WrapsFaults frames old was m (Ok (Ready None)) new now = frames old was m (Ok (Ready None)) new now
 WrapsFaults frames old was m (Ok Pending) new now = frames old was m (Ok Pending) new now

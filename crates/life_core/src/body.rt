@@ -4,12 +4,21 @@ ghost use Rattle.life_core.specs.Moment.{moment_of, SameContext};
 ghost use Rattle.life_core.specs.Meaning.{Frames};
 ghost use Rattle.http_body.specs.SizeHint.{lower, upper};
 
+mod boxed;
+mod empty;
+mod full;
+mod limited;
+
 use crate::Got;
 use crate::context::Cx;
 use crate::poll::Poll;
 use crate::recorder::Recorder;
 use crate::spend::Spend;
+pub use boxed::UnsyncBoxBody;
+pub use empty::Empty;
+pub use full::Full;
 use http_body::{Frame, SizeHint};
+pub use limited::Limited;
 use std::fmt;
 
 /// A fault of a body that wraps another.
@@ -17,6 +26,8 @@ use std::fmt;
 pub enum BodyError<E> {
     /// It took too long.
     Elapsed,
+    /// A chunk was longer than the room left.
+    LengthLimit,
     /// The fault of the wrapped body.
     Inner(E),
 }
@@ -29,6 +40,7 @@ impl<E: fmt::Display> fmt::Display for BodyError<E> {
     fn fmt<W: fmt::Write>(&self, f: &mut fmt::Formatter<W>) -> fmt::Result {
         match self {
             BodyError::Elapsed => write!(f, "data was not received within the designated timeout"),
+            BodyError::LengthLimit => write!(f, "length limit exceeded"),
             BodyError::Inner(fault) => write!(f, "{fault}"),
         }
     }
@@ -73,3 +85,6 @@ pub trait Body<L: Recorder>: Spend<L> {
 pub trait DefaultBody<L: Recorder>: Body<L> + Default {
     ghost default_may: { (body : Self) → Self.is_default body → Self.may body };
 }
+
+#[cfg(test)]
+mod tests;

@@ -1,14 +1,17 @@
 //! Requests and responses: the message of `http` with an extension of a type of the caller's.
-ghost use Rattle.std.specs.Prelude.{◌≡◌};
+ghost use Rattle.std.specs.Prelude.{◌≡◌, IfOk};
 ghost use Rattle.http.specs.Request.{IsNewHead as IsNewRequestHead};
 ghost use Rattle.http.specs.Response.{IsNewHead as IsNewResponseHead};
 ghost use Rattle.life_core.specs.Meaning.{GivenUp};
-ghost use Rattle.life_core.specs.Message.{IsBare};
+ghost use Rattle.life_core.specs.Message.{IsBare, IsText};
 ghost use Rattle.life_core.specs.Moment.{moment_of, SameContext};
 
+use crate::Got;
 use crate::context::Cx;
+use crate::header::put_value;
 use crate::recorder::{NoMemory, Recorder};
 use crate::spend::Spend;
+use http::header::CONTENT_TYPE;
 use http::request::Parts as RequestParts;
 use http::response::Parts as ResponseParts;
 use http::{HeaderMap, HeaderValue, Method, StatusCode, Uri, Version};
@@ -194,6 +197,24 @@ impl<X> ResponseHead<X> {
         ResponseHead {
             parts,
             ext: X::default(),
+        }
+    }
+
+    /// The head of a plain text: this status, HTTP/1.1, the header `content-type: text/plain; charset=utf-8`
+    /// and the default extension. The one error is want of memory.
+    pub fn text(alloc: Global, status: StatusCode) -> Got<ResponseHead<X>>
+    where
+        X: Default + Drop,
+        ensures { IfOk result (λ head. IsText X.is_default status head) }
+    {
+        let mut head = ResponseHead::bare(alloc, status);
+        match put_value(
+            &mut head.parts.headers,
+            &CONTENT_TYPE,
+            HeaderValue::from_static("text/plain; charset=utf-8"),
+        ) {
+            Ok(()) => Ok(head),
+            Err(no_memory) => Err(no_memory),
         }
     }
 

@@ -45,16 +45,33 @@ fn texts(rt: HostRuntime) -> Result<(), Fail> {
         nanos: 2,
     };
     assert_eq!(rt; latency.to_string(alloc)?.as_str(), "2 ns");
-    let rows: [(BodyError<u64>, &str); 2] = [
+    let rows: [(BodyError<u64>, &str); 3] = [
         (
             BodyError::Elapsed,
             "data was not received within the designated timeout",
         ),
+        (BodyError::LengthLimit, "length limit exceeded"),
         (BodyError::Inner(7), "7"),
     ];
     for (fault, want) in rows {
         assert_eq!(rt; fault.to_string(alloc)?.as_str(), want);
     }
+    let levels = [
+        (Level::Error, "ERROR"),
+        (Level::Warn, "WARN"),
+        (Level::Info, "INFO"),
+        (Level::Debug, "DEBUG"),
+        (Level::Trace, "TRACE"),
+    ];
+    for (level, want) in levels {
+        assert_eq!(rt; level.to_string(alloc)?.as_str(), want);
+    }
+    Ok(())
+}
+
+#[test]
+fn kept_texts(rt: HostRuntime) -> Result<(), Fail> {
+    let alloc = rt.alloc();
     let text = Text::copy(alloc, "hi")?;
     assert_eq!(rt; text.twin(alloc)?.as_str(), "hi");
     let octets = Octets::copy(alloc, b"hi")?;
@@ -63,6 +80,86 @@ fn texts(rt: HostRuntime) -> Result<(), Fail> {
     assert_eq!(rt; octets.as_slice(), [1, 2].as_slice());
     let span = Span::new(alloc, "request")?;
     assert_eq!(rt; span.name().as_str(), "request");
+    Ok(())
+}
+
+#[test]
+fn panic_texts(rt: HostRuntime) -> Result<(), Fail> {
+    let alloc = rt.alloc();
+    let text = PanicText::Known(Text::copy(alloc, "hi")?);
+    match text.twin(alloc)? {
+        PanicText::Known(twin) => assert_eq!(rt; twin.as_str(), "hi"),
+        PanicText::Unknown => panic!(rt; "no text"),
+    }
+    match PanicText::Unknown.twin(alloc)? {
+        PanicText::Known(_) => panic!(rt; "a text"),
+        PanicText::Unknown => (),
+    }
+    Ok(())
+}
+
+#[test]
+fn shown_to_a_programmer(rt: HostRuntime) -> Result<(), Fail> {
+    let alloc = rt.alloc();
+    let hi = Text::copy(alloc, "hi")?;
+    let fault: Fault<BodyError<u64>> = Fault::Panicked(PanicText::Known(hi));
+    let shown = format!(in alloc; "{fault:?}")?;
+    assert_eq!(rt; shown.as_str(), "Panicked(Known(Text { text: \"hi\" }))");
+    let faults: [(Fault<BodyError<u64>>, &str); 4] = [
+        (Fault::Panicked(PanicText::Unknown), "Panicked(Unknown)"),
+        (Fault::Err(BodyError::Elapsed), "Err(Elapsed)"),
+        (Fault::Err(BodyError::LengthLimit), "Err(LengthLimit)"),
+        (Fault::Err(BodyError::Inner(7)), "Err(Inner(7))"),
+    ];
+    for (fault, want) in faults {
+        assert_eq!(rt; format!(in alloc; "{fault:?}")?.as_str(), want);
+    }
+    assert_eq!(rt; format!(in alloc; "{:?}", Empty::new())?.as_str(), "Empty");
+    Ok(())
+}
+
+#[test]
+fn events_shown_to_a_programmer(rt: HostRuntime) -> Result<(), Fail> {
+    let alloc = rt.alloc();
+    let chunk = Handed::Chunk(Octets::copy(alloc, b"hi")?);
+    let fault = Handed::Inner(Text::copy(alloc, "no")?);
+    let trailers = Handed::Trailers(Fields::none(alloc));
+    let rows = [
+        (chunk, "Chunk(Octets { bytes: [104, 105] })"),
+        (trailers, "Trailers(Fields { entries: [] })"),
+        (Handed::Pending, "Pending"),
+        (Handed::End, "End"),
+        (Handed::LengthLimit, "LengthLimit"),
+        (Handed::Elapsed, "Elapsed"),
+        (fault, "Inner(Text { text: \"no\" })"),
+    ];
+    for (got, want) in rows {
+        assert_eq!(rt; format!(in alloc; "{got:?}")?.as_str(), want);
+        let event = Event::Handed { got };
+        let shown = format!(in alloc; "{event:?}")?;
+        let wanted = format!(in alloc; "Handed {{ got: {want} }}")?;
+        assert_eq!(rt; shown.as_str(), wanted.as_str());
+    }
+    let event = Event::Panic {
+        level: Level::Error,
+        text: PanicText::Unknown,
+    };
+    assert_eq!(rt;
+        format!(in alloc; "{event:?}")?.as_str(),
+        "Panic { level: Error, text: Unknown }"
+    );
+    Ok(())
+}
+
+#[test]
+fn closures_as_hooks(rt: HostRuntime) -> Result<(), Fail> {
+    let bound = 5;
+    let hook = HookFn::new(move |number: u64| number < bound);
+    let twin = hook.twin(rt.alloc())?;
+    for (number, want) in [(4, true), (5, false)] {
+        assert_eq!(rt; (hook.closure)(number), want);
+        assert_eq!(rt; (twin.closure)(number), want);
+    }
     Ok(())
 }
 
@@ -202,6 +299,20 @@ fn responses(rt: HostRuntime) {
     assert_eq!(rt; response.status().as_u16(), 404);
     let (head, Nothing) = response.into_parts();
     assert_eq!(rt; head.ext, 0);
+}
+
+#[test]
+fn heads_of_texts(rt: HostRuntime) -> Result<(), Fail> {
+    let alloc = rt.alloc();
+    let head = ResponseHead::<u64>::text(alloc, StatusCode::PAYLOAD_TOO_LARGE)?;
+    assert_eq!(rt; head.status().as_u16(), 413);
+    assert!(rt; head.parts.version == Version::HTTP_11);
+    assert_eq!(rt; head.parts.headers.len(), 1);
+    let name = HeaderName::from_static("content-type");
+    let value = first_value(&head.parts.headers, &name)?.ok_or("no value")?;
+    assert_eq!(rt; value.as_bytes(), b"text/plain; charset=utf-8".as_slice());
+    assert_eq!(rt; head.ext, 0);
+    Ok(())
 }
 
 /// Puts a value after those of its name.

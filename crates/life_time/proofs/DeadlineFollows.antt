@@ -9,7 +9,7 @@ use Rattle.life_core.specs.declared.event.Event.{Event}
 use Rattle.life_core.specs.declared.message.Response.{Response}
 use Rattle.life_core.specs.declared.message.ResponseHead.{ResponseHead}
 use Rattle.life_core.specs.declared.body.BodyError.{BodyError}
-use Rattle.life_core.specs.declared.body.BodyError.TheVariants.{Elapsed, Inner}
+use Rattle.life_core.specs.declared.body.BodyError.TheVariants.{Elapsed, LengthLimit, Inner}
 use Rattle.life_core.specs.declared.poll.Poll.{Poll}
 use Rattle.life_core.specs.declared.poll.Poll.TheVariants.{Ready, Pending}
 use Rattle.life_core.specs.declared.clock.Timer.{Timer}
@@ -103,6 +103,7 @@ module _ {P B D E : Type 0} (frames : Frames B D E) (leaves : Leaves B) (ends : 
   polled p past b was m (Ready None) new now l s f = let i = inner.frame p past b was m _ new now l s f in (ap wrapped i.answer, i.grew, i.stands)
   polled p past b was m (Ready (Some (Ok x))) new now l s f = let i = inner.frame p past b was m _ new now l s f in (ap wrapped i.answer, i.grew, i.stands)
   polled p past b was m (Ready (Some (Err Elapsed))) new now l s f = elim f [ ]
+  polled p past b was m (Ready (Some (Err LengthLimit))) new now l s f = elim f [ ]
   polled p past b was m (Ready (Some (Err (Inner e)))) new now l s f = let i = inner.frame p past b was m _ new now l s f in (ap wrapped i.answer, i.grew, i.stands)
 
   in_time : (p : ℕ × P) (past : List ℕ) (b : DeadlineBody B) (was : Recorded) (m : Moment) (a : Poll (Option (Result (Frame D) (BodyError E)))) (new : DeadlineBody B) (now : Recorded) →

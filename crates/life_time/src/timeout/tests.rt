@@ -157,6 +157,7 @@ fn asked(body: &mut DeadlineBody<Same>, alloc: Global, now: u64) -> &'static str
         Ok(Poll::Ready(None)) => "end",
         Ok(Poll::Ready(Some(Ok(_frame)))) => "data",
         Ok(Poll::Ready(Some(Err(BodyError::Elapsed)))) => "elapsed",
+        Ok(Poll::Ready(Some(Err(BodyError::LengthLimit)))) => "length limit",
         Ok(Poll::Ready(Some(Err(BodyError::Inner(_fault))))) => "fault",
         Err(_) => "no memory",
     }

@@ -1,0 +1,4 @@
+pub mod CatchFollows
+mod Closures
+pub mod Lengths
+pub mod LimitFollows

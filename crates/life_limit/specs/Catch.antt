@@ -1,0 +1,200 @@
+-- What `CatchPanic` does: it turns the panics of its inner service into its handler's responses.
+use Rattle.std.specs.Prelude.{◌≡◌, ◌⊎◌, Option, Some, None, Result, Ok, Err, IsSome, IfSome, IsSomeAnd, codes}
+use Rattle.std.specs.Borrow.{MutBor}
+use Rattle.std.specs.Fn.{Called, Mut}
+use Rattle.life_core.specs.Full.{full_of}
+use Rattle.life_core.specs.Meaning.{Polls, Leaves, Readies, Calls, Reply, LeavesIfAny, PollsWithin, GivenUp}
+use Rattle.life_core.specs.Message.{IsText}
+use Rattle.life_core.specs.Moment.{Moment}
+use Rattle.life_core.specs.Recorded.{Recorded, Notes}
+use Rattle.life_core.specs.declared.body.boxed.UnsyncBoxBody.{UnsyncBoxBody}
+use Rattle.life_core.specs.declared.body.boxed.UnsyncBoxBody.TheVariants.{Inner, Panic, Empty}
+use Rattle.life_core.specs.declared.body.full.Full.{Full}
+use Rattle.life_core.specs.declared.event.Event.TheVariants as event
+use Rattle.life_core.specs.declared.event.Event.{Event}
+use Rattle.life_core.specs.declared.event.Level.TheVariants.{Error}
+use Rattle.life_core.specs.declared.fault.Fault.{Fault}
+use Rattle.life_core.specs.declared.fault.Fault.TheVariants as fault
+use Rattle.life_core.specs.declared.fault.PanicText.{PanicText}
+use Rattle.life_core.specs.declared.message.Request.{Request}
+use Rattle.life_core.specs.declared.message.Response.{Response}
+use Rattle.life_core.specs.declared.message.ResponseHead.{ResponseHead}
+use Rattle.life_core.specs.declared.poll.Poll.TheVariants.{Ready, Pending}
+use Rattle.life_core.specs.declared.recorder.NoMemory.{NoMemory}
+use Rattle.life_limit.specs.declared.catch_panic.future.ResponseFuture.{ResponseFuture}
+use Rattle.life_limit.specs.declared.catch_panic.handler.DefaultResponseForPanic.{DefaultResponseForPanic}
+use Rattle.life_limit.specs.declared.catch_panic.layer.CatchPanicLayer.{CatchPanicLayer}
+use Rattle.life_limit.specs.declared.catch_panic.service.CatchPanic.{CatchPanic}
+
+-- Handler and recorder before, the text of the panic, the answer, handler and recorder after.
+abbrev pub Handles : Type 0 → Type 0 → Type 0 → Type 1
+Handles T P X = T → PanicText → Recorded → Result (Response P X) NoMemory → T → Recorded → Type 0
+
+abbrev pub default_handler : DefaultResponseForPanic
+default_handler = record {}
+
+abbrev pub IsDefaultHandler : DefaultResponseForPanic → Type 0
+IsDefaultHandler handler = handler ≡ default_handler
+
+-- the record of a panic
+abbrev pub panic_record : PanicText → Event
+panic_record text = event.Panic Error text
+
+-- the panic is recorded, and the answer is 500 with a plain text; it is refused where there is no memory for either
+abbrev pub DefaultHandles : {X : Type 0} → (X → Type 0) → Handles DefaultResponseForPanic Full X
+DefaultHandles is_ext old text was (Ok r) new now = Notes was (panic_record text) (Ok tt) now × IsText is_ext 500 r.head × (r.body ≡ full_of (codes "Service panicked"))
+DefaultHandles is_ext old text was (Err e) new now = Notes was (panic_record text) (Err e) now ⊎ Notes was (panic_record text) (Ok tt) now
+
+-- the closure is called once, at the text and a recorder
+pub record ClosureHandles {F A L P X : Type 0} (calls : Mut F (A × (PanicText × (MutBor L × Unit {0}))) (Result (Response P X) NoMemory × (MutBor L × Unit {0})))
+    (recorded : L → Recorded) (closure : F) (text : PanicText) (was : Recorded) (answer : Result (Response P X) NoMemory) (after : F) (now : Recorded) : Type 0 where
+  pub alloc : A
+  pub rec : MutBor L
+  pub left : MutBor L
+  pub called : Called calls closure (alloc, (text, (rec, tt))) (answer, (left, tt)) after
+  pub begins : recorded rec.now ≡ was
+  pub ends : recorded left.now ≡ now
+
+abbrev pub catch_layer : {T : Type 0} → T → CatchPanicLayer T
+catch_layer handler = record { panic_handler = handler }
+
+abbrev pub IsDefaultLayer : CatchPanicLayer DefaultResponseForPanic → Type 0
+IsDefaultLayer layer = layer ≡ catch_layer default_handler
+
+-- no text is kept
+abbrev pub catch_service : {S T : Type 0} → S → T → CatchPanic S T
+catch_service inner handler = record { inner = inner; panic_handler = handler; kept = None }
+
+abbrev pub catch_round : {S T : Type 0} → CatchPanicLayer T → S → CatchPanic S T
+catch_round layer inner = catch_service inner layer.panic_handler
+
+abbrev pub catch_inner : {S T : Type 0} → CatchPanic S T → S
+catch_inner s = s.inner
+
+abbrev pub CatchMay : {S T : Type 0} → (S → Type 0) → (T → Type 0) → CatchPanic S T → Type 0
+CatchMay may handler_may s = may s.inner × handler_may s.panic_handler
+
+-- the future over an inner one
+abbrev pub watching : {F T : Type 0} → F → T → ResponseFuture F T
+watching inner handler = record { inner = Some inner; text = None; handler = handler }
+
+-- the future that tells of a panic before the call
+abbrev pub telling : {F T : Type 0} → Option PanicText → T → ResponseFuture F T
+telling text handler = record { inner = None; text = text; handler = handler }
+
+abbrev pub CatchFutureMay : {F T : Type 0} → (F → Type 0) → ResponseFuture F T → Type 0
+CatchFutureMay may f = IfSome f.inner may
+
+-- a text is to be told, or the inner future is live
+abbrev pub CatchFutureLive : {F T : Type 0} → (F → Type 0) → (T → Type 0) → ResponseFuture F T → Type 0
+CatchFutureLive live handler_may f = handler_may f.handler × (f.text ≡ None → IsSomeAnd f.inner live)
+
+abbrev pub CatchLeaves : {F T : Type 0} → Leaves F → Leaves (ResponseFuture F T)
+CatchLeaves leaves old was m answer now = LeavesIfAny leaves old.inner was m answer now
+
+-- a panic is kept in place of what was kept, and readiness is told
+abbrev pub CatchReadies : {S T E : Type 0} → Readies S (Fault E) → Readies (CatchPanic S T) E
+CatchReadies readies old was m (Ready (Ok u)) new now =
+    (readies old.inner was m (Ready (Ok u)) new.inner now × (new ≡ record old { inner = new.inner }))
+    ⊎ ((text : PanicText) × readies old.inner was m (Ready (Err (fault.Panicked text))) new.inner now
+    × (new ≡ record old { inner = new.inner; kept = Some text }))
+CatchReadies readies old was m (Ready (Err e)) new now =
+    readies old.inner was m (Ready (Err (fault.Err e))) new.inner now × (new ≡ record old { inner = new.inner })
+CatchReadies readies old was m Pending new now =
+    readies old.inner was m Pending new.inner now × (new ≡ record old { inner = new.inner })
+
+-- the body is given up, and the future has the text; at a refusal the text stays kept
+abbrev pub TellsBy : {B F T : Type 0} → Leaves B → B → Recorded → Moment → Option PanicText → T → Result (ResponseFuture F T) NoMemory → Option PanicText → Recorded → Type 0
+TellsBy leaves body was m old handler (Ok f) new now = leaves body was m (Ok tt) now × (f ≡ telling old handler) × (new ≡ None)
+TellsBy leaves body was m old handler (Err e) new now = leaves body was m (Err e) now × (new ≡ old)
+
+module _ {S T Q X F : Type 0} (calls : Calls S (Request Q X) F) (leaves : Leaves Q) where
+  -- no text is kept: the inner service is called
+  pub record CatchServed (old : CatchPanic S T) (req : Request Q X) (was : Recorded) (m : Moment)
+      (f : ResponseFuture F T) (new : CatchPanic S T) (now : Recorded) : Type 0 where
+    pub none_kept : old.kept ≡ None
+    pub given : F
+    pub inner : calls old.inner req was m (Ok given) new.inner now
+    pub future : f ≡ watching given old.panic_handler
+    pub same : new ≡ record old { inner = new.inner }
+
+  -- a text is kept: the inner service is not called
+  pub record CatchTold (old : CatchPanic S T) (req : Request Q X) (was : Recorded) (m : Moment)
+      (f : ResponseFuture F T) (new : CatchPanic S T) (now : Recorded) : Type 0 where
+    pub is_kept : IsSome old.kept
+    pub left : leaves req.body was m (Ok tt) now
+    pub future : f ≡ telling old.kept old.panic_handler
+    pub same : new ≡ record old { kept = None }
+
+  -- no text is kept, and the inner service has no memory
+  pub record InnerRefuses (old : CatchPanic S T) (req : Request Q X) (was : Recorded) (m : Moment)
+      (e : NoMemory) (new : CatchPanic S T) (now : Recorded) : Type 0 where
+    pub none_kept : old.kept ≡ None
+    pub inner : calls old.inner req was m (Err e) new.inner now
+    pub same : new ≡ record old { inner = new.inner }
+
+  -- the request's body is given up; all stays as it was, what is kept too
+  pub record CatchRefuses (old : CatchPanic S T) (req : Request Q X) (was : Recorded) (m : Moment)
+      (new : CatchPanic S T) (now : Recorded) : Type 0 where
+    pub left : GivenUp leaves req.body was m now
+    pub same : new ≡ old
+
+  abbrev pub CatchCalls : Calls (CatchPanic S T) (Request Q X) (ResponseFuture F T)
+  CatchCalls old req was m (Ok f) new now = CatchServed old req was m f new now ⊎ CatchTold old req was m f new now
+  CatchCalls old req was m (Err e) new now = InnerRefuses old req was m e new now ⊎ CatchRefuses old req was m new now
+
+-- the handler's response, its body that of a panic
+abbrev pub HandlerBody : {T B P X : Type 0} → Handles T P X → T → PanicText → Recorded → ResponseHead X → UnsyncBoxBody B P → T → Recorded → Type 0
+HandlerBody handles old text was head (Inner b) new now = ⊥
+HandlerBody handles old text was head (Panic p) new now = handles old text was (Ok (record { head = head; body = p })) new now
+HandlerBody handles old text was head Empty new now = ⊥
+
+abbrev pub HandlerGives : {T B P X : Type 0} → Handles T P X → T → PanicText → Recorded → Result (Response (UnsyncBoxBody B P) X) NoMemory → T → Recorded → Type 0
+HandlerGives handles old text was (Ok r) new now = HandlerBody handles old text was r.head r.body new now
+HandlerGives handles old text was (Err e) new now = handles old text was (Err e) new now
+
+-- the same as the answer of a poll
+abbrev pub HandlerReplies : {T B P X E : Type 0} → Handles T P X → T → PanicText → Recorded → Reply (UnsyncBoxBody B P) X E → T → Recorded → Type 0
+HandlerReplies handles old text was (Ok (Ready (Ok r))) new now = HandlerBody handles old text was r.head r.body new now
+HandlerReplies handles old text was (Ok (Ready (Err e))) new now = ⊥
+HandlerReplies handles old text was (Ok Pending) new now = ⊥
+HandlerReplies handles old text was (Err e) new now = handles old text was (Err e) new now
+
+module _ {F T B P X E : Type 0} (polls : Polls F (Result (Response B X) (Fault E))) (handles : Handles T P X) where
+  -- the panic was before the call
+  pub record CatchTells (old : ResponseFuture F T) (was : Recorded) (answer : Reply (UnsyncBoxBody B P) X E)
+      (new : ResponseFuture F T) (now : Recorded) : Type 0 where
+    pub handled : IsSomeAnd old.text (λ text. HandlerReplies handles old.handler text was answer new.handler now)
+    pub same : new ≡ record old { text = None; handler = new.handler }
+
+  -- the inner future panics in this poll
+  pub record CatchCatches (old : ResponseFuture F T) (was : Recorded) (m : Moment) (answer : Reply (UnsyncBoxBody B P) X E)
+      (new : ResponseFuture F T) (now : Recorded) : Type 0 where
+    pub none_told : old.text ≡ None
+    pub text : PanicText
+    pub between : Recorded
+    pub inner : PollsWithin polls old.inner was m (Ok (Ready (Err (fault.Panicked text)))) new.inner between
+    pub handled : HandlerReplies handles old.handler text between answer new.handler now
+    pub same : new ≡ record old { inner = new.inner; handler = new.handler }
+
+  abbrev pub InnerBody : ResponseFuture F T → Recorded → Moment → ResponseHead X → UnsyncBoxBody B P → ResponseFuture F T → Recorded → Type 0
+  InnerBody old was m head (Inner b) new now = PollsWithin polls old.inner was m (Ok (Ready (Ok (record { head = head; body = b })))) new.inner now
+  InnerBody old was m head (Panic p) new now = ⊥
+  InnerBody old was m head Empty new now = ⊥
+
+  -- the inner answer, with the inner body
+  abbrev pub InnerReplies : Polls (ResponseFuture F T) (Result (Response (UnsyncBoxBody B P) X) E)
+  InnerReplies old was m (Ok (Ready (Ok r))) new now = InnerBody old was m r.head r.body new now
+  InnerReplies old was m (Ok (Ready (Err e))) new now = PollsWithin polls old.inner was m (Ok (Ready (Err (fault.Err e)))) new.inner now
+  InnerReplies old was m (Ok Pending) new now = PollsWithin polls old.inner was m (Ok Pending) new.inner now
+  InnerReplies old was m (Err e) new now = PollsWithin polls old.inner was m (Err e) new.inner now
+
+  -- the inner future answers without a panic
+  pub record CatchPasses (old : ResponseFuture F T) (was : Recorded) (m : Moment) (answer : Reply (UnsyncBoxBody B P) X E)
+      (new : ResponseFuture F T) (now : Recorded) : Type 0 where
+    pub none_told : old.text ≡ None
+    pub inner : InnerReplies old was m answer new now
+    pub same : new ≡ record old { inner = new.inner }
+
+  abbrev pub CatchPolls : Polls (ResponseFuture F T) (Result (Response (UnsyncBoxBody B P) X) E)
+  CatchPolls old was m answer new now = CatchTells old was answer new now ⊎ CatchPasses old was m answer new now ⊎ CatchCatches old was m answer new now

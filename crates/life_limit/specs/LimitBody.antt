@@ -1,0 +1,39 @@
+-- The bodies of `RequestBodyLimit`'s responses: an inner one, or a text.
+use Rattle.std.specs.Prelude.{ℕ, Bool, List, Option, ⊤}
+use Rattle.life_core.specs.Boxed.{NeverFaults}
+use Rattle.life_core.specs.Full.{FullFrames, LeavesNothing, full_ends, full_hints}
+use Rattle.life_core.specs.Meaning.{Frames, Leaves}
+use Rattle.life_limit.specs.declared.limit.body.ResponseBody.{ResponseBody}
+use Rattle.life_limit.specs.declared.limit.body.ResponseBody.TheVariants.{PayloadTooLarge, Body}
+
+-- the default is the inner default
+abbrev pub IsDefaultBody : {B : Type 0} → (B → Type 0) → ResponseBody B → Type 0
+IsDefaultBody is_default (Body b) = is_default b
+IsDefaultBody is_default (PayloadTooLarge b) = ⊥
+
+abbrev pub LimitBodyMay : {B : Type 0} → (B → Type 0) → ResponseBody B → Type 0
+LimitBodyMay may (Body b) = may b
+LimitBodyMay may (PayloadTooLarge b) = ⊤
+
+pub default_may_by : {B : Type 0} {is_default may : B → Type 0} → ((b : B) → is_default b → may b) → (body : ResponseBody B) → IsDefaultBody is_default body → LimitBodyMay may body
+default_may_by law (Body b) d = law b d
+default_may_by law (PayloadTooLarge b) d = tt
+
+abbrev pub LimitBodyLeaves : {B : Type 0} → Leaves B → Leaves (ResponseBody B)
+LimitBodyLeaves leaves (Body b) was m answer now = leaves b was m answer now
+LimitBodyLeaves leaves (PayloadTooLarge b) was m answer now = LeavesNothing b was m answer now
+
+-- it answers as the body in it, which stays of its kind
+abbrev pub LimitBodyFrames : {B E : Type 0} → Frames B (List ℕ) E → Frames (ResponseBody B) (List ℕ) E
+LimitBodyFrames frames (Body b) was m answer (Body c) now = frames b was m answer c now
+LimitBodyFrames frames (Body b) was m answer (PayloadTooLarge c) now = ⊥
+LimitBodyFrames frames (PayloadTooLarge b) was m answer (Body c) now = ⊥
+LimitBodyFrames frames (PayloadTooLarge b) was m answer (PayloadTooLarge c) now = NeverFaults {N = ⊥} FullFrames b was m answer c now
+
+abbrev pub limit_body_ends : {B : Type 0} → (B → Bool) → ResponseBody B → Bool
+limit_body_ends ends (Body b) = ends b
+limit_body_ends ends (PayloadTooLarge b) = full_ends b
+
+abbrev pub limit_body_hints : {B : Type 0} → (B → ℕ × Option ℕ) → ResponseBody B → ℕ × Option ℕ
+limit_body_hints hints (Body b) = hints b
+limit_body_hints hints (PayloadTooLarge b) = full_hints b
