@@ -12,11 +12,12 @@ use Rattle.life_script.specs.declared.error.DriveError.TheVariants.{ClockBack, N
 use Rattle.life_script.specs.declared.scenario.Step.{Step}
 use Rattle.life_script.specs.ScriptView.{ScriptView, ScenarioView}
 use Rattle.life_script.specs.declared.checks.TheConstants.{MAX_HEADER_VALUES}
+use Rattle.life_script.specs.declared.scenario.BodyItem.{BodyItem}
 use Rattle.life_script.specs.declared.scenario.BodyItem.TheVariants.{Trailers}
 use Rattle.life_script.specs.declared.scenario.Then.TheVariants.{Respond}
 use Rattle.life_script.specs.Headers.{Headers}
 use Rattle.life_script.specs.Views.{ReplyView}
-use Rattle.life_script.specs.Valid.{is_over, is_item_over, is_reply_over, is_then_over, is_script_over, is_back, verdict_from, unless_over, IsValid, ReplyFits, ScriptFits}
+use Rattle.life_script.specs.Valid.{is_over, is_item_over, is_message_over, is_reply_over, is_then_over, is_script_over, is_back, verdict_from, unless_over, IsValid, BodyFits, ReplyFits, ScriptFits}
 
 -- where there are r requests
 module _ (r : ℕ) where
@@ -169,17 +170,22 @@ not_any p (y ∷ ys) h (suc k) x is = not_any p ys (or_parts (p y) (list_any p y
 fits : (headers : Headers) → is_over headers ≡ false → length headers ≤ MAX_HEADER_VALUES
 fits headers h = ltb-false MAX_HEADER_VALUES (length headers) h
 
+message_fits : (headers : Headers) (body : List BodyItem) → is_message_over headers body ≡ false → (length headers ≤ MAX_HEADER_VALUES) × BodyFits body
+message_fits headers body h =
+    let parts = or_parts (is_over headers) (list_any is_item_over body) h in
+    (fits headers parts.0, λ k trailers is. fits trailers (not_any is_item_over body parts.1 k (Trailers trailers) is))
+
 reply_fits : (reply : ReplyView) → is_reply_over reply ≡ false → ReplyFits reply
-reply_fits reply h = let parts = or_parts (is_over reply.headers) (list_any is_item_over reply.body) h in record {
-  headers = fits reply.headers parts.0;
-  trailers = λ k headers is. fits headers (not_any is_item_over reply.body parts.1 k (Trailers headers) is);
-}
+reply_fits reply h = let own = message_fits reply.headers reply.body h in record { headers = own.0; body = own.1 }
 
 script_fits : (script : ScriptView) → is_script_over script ≡ false → ScriptFits script
-script_fits script h = let parts = or_parts (is_over script.headers) (list_any (λ item. is_then_over item.then) script.polls) h in record {
-  headers = fits script.headers parts.0;
-  replies = λ k reply is. reply_fits reply (not_any (λ item. is_then_over item.then) script.polls parts.1 k (record { then = Respond reply }) is);
-}
+script_fits script h =
+    let parts = or_parts (is_message_over script.headers script.body) (list_any (λ item. is_then_over item.then) script.polls) h in
+    let own = message_fits script.headers script.body parts.0 in record {
+      headers = own.0;
+      body = own.1;
+      replies = λ k asks reply is. reply_fits reply (not_any (λ item. is_then_over item.then) script.polls parts.1 k (record { asks = asks; then = Respond reply }) is);
+    }
 
 -- no header list of a valid scenario holds too many values
 pub valid_headers : (s : ScenarioView) → IsValid s → (i : ℕ) (script : ScriptView) → slice_get s.requests i ≡ Some script → ScriptFits script

@@ -5,17 +5,21 @@ use Rattle.http_header.specs.FieldName.{is_field_name}
 use Rattle.http_header.specs.FieldValue.{FieldValue, plain_value}
 use Rattle.http_header.specs.Token.{lowercase, is_value_byte}
 use Rattle.serde_json.specs.Data.{Data, Items, no_items, item}
-use Rattle.serde_json.specs.Find.{get, as_number, as_u64, as_bool, as_str, as_array}
+use Rattle.serde_json.specs.Find.{get, as_null, as_number, as_u64, as_bool, as_str, as_array}
 use Rattle.serde_json.specs.Read.{read as read_text}
+use Rattle.life_core.specs.declared.fault.PanicText.{PanicText}
+use Rattle.life_core.specs.declared.fault.PanicText.TheVariants.{Known, Unknown}
 use Rattle.life_script.specs.declared.scenario.Act.{Act}
 use Rattle.life_script.specs.declared.scenario.Act.TheVariants.{Call, Poll, Drop}
 use Rattle.life_script.specs.declared.scenario.BodyItem.{BodyItem}
 use Rattle.life_script.specs.declared.scenario.BodyItem.TheVariants.{Chunk, Trailers, Pending as PendingItem, Fault}
+use Rattle.life_script.specs.declared.scenario.CallItem.{CallItem}
+use Rattle.life_script.specs.declared.scenario.CallItem.TheVariants.{Serve, Panic as PanicCall}
 use Rattle.life_script.specs.declared.scenario.Limits.{Limits}
 use Rattle.life_script.specs.declared.scenario.PollItem.{PollItem}
 use Rattle.life_script.specs.declared.scenario.Step.{Step}
 use Rattle.life_script.specs.declared.scenario.Then.{Then}
-use Rattle.life_script.specs.declared.scenario.Then.TheVariants.{Pending, Fail, Respond}
+use Rattle.life_script.specs.declared.scenario.Then.TheVariants.{Pending, Panic, Fail, Respond}
 use Rattle.life_script.specs.Headers.{Headers}
 use Rattle.life_script.specs.ScriptView.{ScriptView, ScenarioView}
 use Rattle.life_script.specs.Views.{ReplyView}
@@ -92,6 +96,18 @@ status_of n = cond (nat_le 100 n && nat_le n 999) (Some n) None
 abbrev pub status_at : List ℕ → Data → Option ℕ
 status_at key d = number_at key d >>= status_of
 
+-- a number of asks is at most 16
+abbrev pub asks_of : ℕ → Option ℕ
+asks_of n = cond (nat_le n 16) (Some n) None
+
+-- the number of asks at a key
+abbrev pub asks_at : List ℕ → Data → Option ℕ
+asks_at key d = number_at key d >>= asks_of
+
+-- whether the value at a key is there, and is null
+abbrev pub is_null_at : List ℕ → Data → Bool
+is_null_at key d = unwrap_or (option_map (λ found. is_some (as_null found)) (get key d)) false
+
 -- the items of an array
 abbrev pub list_of : Items → List Data
 list_of no_items = []
@@ -121,11 +137,12 @@ limits_of d =
     number_at (codes "timeout") d >>= λ timeout.
     status_at (codes "timeout_status") d >>= λ status.
     number_at (codes "body_deadline") d >>= λ deadline.
-    Some (record { timeout = timeout; timeout_status = status; body_deadline = deadline })
+    number_at (codes "byte_limit") d >>= λ bytes.
+    Some (record { timeout = timeout; timeout_status = status; body_deadline = deadline; byte_limit = bytes })
 
 -- whether limits have a key that is not built yet
 abbrev pub has_unbuilt_limit : Data → Bool
-has_unbuilt_limit d = has (codes "byte_limit") d || has (codes "gate_name") d || has (codes "gate_value") d || has (codes "classifier") d || has (codes "span_headers") d
+has_unbuilt_limit d = has (codes "gate_name") d || has (codes "gate_value") d || has (codes "classifier") d || has (codes "span_headers") d
 
 -- the limits
 abbrev pub limits_part : Data → Read Limits
@@ -203,36 +220,53 @@ body_item_part d =
     cond (has (codes "trailers") d) (read_map Trailers (headers_at (codes "trailers") d)) (
     read_map Fault (text_at (codes "fault") d))))
 
+-- the headers and the body of a request or a response
+abbrev pub message_part : Data → Read (Headers × List BodyItem)
+message_part d = read_both (λ headers body. (headers, body)) (headers_at (codes "headers") d) (all_at body_item_part (codes "body") d)
+
 -- a response
 abbrev pub reply_part : Data → Read ReplyView
 reply_part d =
     needs (status_at (codes "status") d) (λ status.
     needs (get (codes "tells") d >>= as_bool) (λ tells.
-    read_both (λ headers body. record { status = status; headers = headers; body = body; tells = tells }) (headers_at (codes "headers") d) (all_at body_item_part (codes "body") d)))
+    read_map (λ message. record { status = status; headers = message.0; body = message.1; tells = tells }) (message_part d)))
 
--- an answer: the first of the three keys decides, and a panic, which is not built yet, has the shape
--- whatever stands there
+-- the text of a panic, where null stands for an unknown one
+abbrev pub panic_part : Data → Read PanicText
+panic_part d = cond (is_null_at (codes "panic") d) (Good Unknown) (read_map Known (text_at (codes "panic") d))
+
+-- an answer: the first of the three keys decides
 abbrev pub then_part : Data → Read Then
 then_part d =
     cond (is_string (codes "pending") d) (Good Pending) (
-    cond (has (codes "panic") d) Unbuilt (
+    cond (has (codes "panic") d) (read_map Panic (panic_part d)) (
     cond (has (codes "fail") d) (read_map Fail (text_at (codes "fail") d)) (
     needs (get (codes "respond") d) (λ reply. read_map Respond (reply_part reply)))))
 
 -- what is done at one poll
 abbrev pub poll_item_part : Data → Read PollItem
 poll_item_part d =
-    unbuilt_if (has (codes "asks") d) (
-    needs (get (codes "then") d) (λ answer. read_map (λ t. record { then = t }) (then_part answer)))
+    needs (asks_at (codes "asks") d) (λ asks.
+    needs (get (codes "then") d) (λ answer. read_map (λ t. record { asks = asks; then = t }) (then_part answer)))
+
+-- what is done at the call
+abbrev pub call_part : Data → Read CallItem
+call_part d = cond (is_string (codes "serve") d) (Good Serve) (read_map PanicCall (panic_part d))
+
+-- what the service does with a request: at the call, and poll by poll
+abbrev pub service_part : Data → Read (CallItem × List PollItem)
+service_part d =
+    needs (get (codes "call") d) (λ call.
+    read_both (λ item polls. (item, polls)) (call_part call) (all_at poll_item_part (codes "polls") d))
 
 -- whether a request has a key that is not built yet
 abbrev pub has_unbuilt_request : Data → Bool
-has_unbuilt_request d = has (codes "method") d || has (codes "uri") d || has (codes "body") d || has (codes "call") d
+has_unbuilt_request d = has (codes "method") d || has (codes "uri") d
 
 -- the script of a request
 abbrev pub script_part : Data → Read ScriptView
 script_part d = unbuilt_if (has_unbuilt_request d) (
-    read_both (λ headers polls. record { headers = headers; polls = polls }) (headers_at (codes "headers") d) (all_at poll_item_part (codes "polls") d))
+    read_both (λ message service. record { headers = message.0; body = message.1; call = service.0; polls = service.1 }) (message_part d) (service_part d))
 
 -- ---- the whole
 

@@ -1,11 +1,15 @@
 -- What scripts and scenarios are seen as.
 use Rattle.std.specs.Prelude.{ℕ, List}
 use Rattle.life_script.specs.Headers.{Headers}
+use Rattle.life_script.specs.declared.scenario.BodyItem.{BodyItem}
+use Rattle.life_script.specs.declared.scenario.CallItem.{CallItem}
 use Rattle.life_script.specs.declared.scenario.PollItem.{PollItem}
 use Rattle.life_script.specs.declared.scenario.Step.{Step}
 
 pub record ScriptView : Type 0 where
   pub headers : Headers
+  pub body : List BodyItem
+  pub call : CallItem
   pub polls : List PollItem
 
 pub record ScenarioView : Type 0 where

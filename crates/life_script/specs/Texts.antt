@@ -1,13 +1,19 @@
 -- The exact texts of answers and events.
-use Rattle.std.specs.Prelude.{ℕ, ◌+◌, ◌/◌, ◌%◌, Bool, List, [], ◌∷◌, ◌++◌, codes, decimal, flat_map, nat_lt, nat_le, ◌==◌, ◌&&◌, if◌then◌else◌}
-use Rattle.life_core.specs.Texts.{shown_in}
+use Rattle.std.specs.Prelude.{ℕ, ◌+◌, ◌/◌, ◌%◌, Bool, List, [], ◌∷◌, ◌++◌, codes, decimal, flat_map, nat_lt, nat_le, ◌==◌, ◌&&◌, if◌then◌else◌, unwrap_or}
+use Rattle.life_core.specs.Texts.{shown_in, level_text}
 use Rattle.http_header.specs.HeaderMap.{Entry, Entries}
 use Rattle.life_core.specs.declared.body.BodyError.{BodyError}
-use Rattle.life_core.specs.declared.body.BodyError.TheVariants.{Elapsed, Inner}
+use Rattle.life_core.specs.declared.body.BodyError.TheVariants.{Elapsed, LengthLimit, Inner}
 use Rattle.life_core.specs.declared.event.DropKind.{DropKind}
 use Rattle.life_core.specs.declared.event.DropKind.TheVariants.{Future, Body}
 use Rattle.life_core.specs.declared.event.Event.{Event}
-use Rattle.life_core.specs.declared.event.Event.TheVariants.{Dropped as DroppedEarly}
+use Rattle.life_core.specs.declared.event.Event.TheVariants.{Panic, Handed as HandedFrame, Dropped as DroppedEarly}
+use Rattle.life_core.specs.declared.event.Handed.{Handed}
+use Rattle.life_core.specs.declared.event.Handed.TheVariants as handed_
+use Rattle.life_core.specs.declared.event.Level.{Level}
+use Rattle.life_core.specs.declared.fault.PanicText.{PanicText}
+use Rattle.life_core.specs.declared.fault.PanicText.TheVariants.{Known, Unknown}
+use Rattle.life_core.specs.declared.latency.Latency.{Latency}
 use Rattle.life_core.specs.declared.fields.Shown.{Shown}
 use Rattle.life_core.specs.declared.fields.Shown.TheVariants.{Plain, Sensitive}
 use Rattle.life_script.specs.declared.answer.Answer.{Answer}
@@ -59,15 +65,28 @@ entry_text entry = entry.0 ++ codes ": [" ++ values_text entry.1 ++ codes "]"
 abbrev pub fields_text : Entries Shown → List ℕ
 fields_text entries = codes "{" ++ joined entry_text entries ++ codes "}"
 
+-- a chunk
+abbrev pub chunk_text : List ℕ → List ℕ
+chunk_text bytes = codes "data " ++ shown bytes
+
+-- trailers
+abbrev pub trailers_text : Entries Shown → List ℕ
+trailers_text trailers = codes "trailers " ++ fields_text trailers
+
 -- what a frame held
 abbrev pub seen_text : Seen → List ℕ
-seen_text (Chunk bytes) = codes "data " ++ shown bytes
-seen_text (Trailers trailers) = codes "trailers " ++ fields_text trailers
+seen_text (Chunk bytes) = chunk_text bytes
+seen_text (Trailers trailers) = trailers_text trailers
 
--- a fault of a body, of which a wrapped body's is shown
+-- the fault of a wrapped body
+abbrev pub inner_text : List ℕ → List ℕ
+inner_text fault = codes "fault inner " ++ shown fault
+
+-- a fault of a body
 abbrev pub fault_text : BodyError (List ℕ) → List ℕ
 fault_text Elapsed = codes "fault elapsed"
-fault_text (Inner fault) = codes "fault inner " ++ shown fault
+fault_text LengthLimit = codes "fault length-limit"
+fault_text (Inner fault) = inner_text fault
 
 -- an answer
 abbrev pub answer_text : Answer → List ℕ
@@ -86,9 +105,38 @@ abbrev pub kind_text : DropKind → List ℕ
 kind_text Future = codes "future"
 kind_text (Body status) = codes "body " ++ decimal status
 
+-- what was dropped early, and how long after its call
+abbrev pub dropped_text : DropKind → Latency → List ℕ
+dropped_text what latency = codes "dropped " ++ kind_text what ++ codes " latency " ++ shown_in latency.unit latency.nanos
+
+-- a level's name
+abbrev pub level_name : Level → List ℕ
+level_name level = unwrap_or (level_text level) []
+
+-- what a panic said
+abbrev pub said_text : PanicText → List ℕ
+said_text (Known text) = shown text
+said_text Unknown = codes "unknown"
+
+-- a panic
+abbrev pub panic_text : Level → PanicText → List ℕ
+panic_text level text = codes "panic " ++ level_name level ++ codes " " ++ said_text text
+
+-- what a service was handed, as in an answer where an answer can be it
+abbrev pub handed_text : Handed → List ℕ
+handed_text (handed_.Chunk bytes) = chunk_text bytes
+handed_text (handed_.Trailers trailers) = trailers_text trailers
+handed_text handed_.Pending = codes "pending"
+handed_text handed_.End = codes "end"
+handed_text handed_.LengthLimit = fault_text LengthLimit
+handed_text handed_.Elapsed = fault_text Elapsed
+handed_text (handed_.Inner fault) = fault_text (Inner fault)
+
 -- an event
 abbrev pub event_text : Event → List ℕ
-event_text (DroppedEarly what latency) = codes "dropped " ++ kind_text what ++ codes " latency " ++ shown_in latency.unit latency.nanos
+event_text (Panic level text) = panic_text level text
+event_text (HandedFrame got) = codes "handed " ++ handed_text got
+event_text (DroppedEarly what latency) = dropped_text what latency
 
 -- what a client does
 abbrev pub act_text : Act → List ℕ

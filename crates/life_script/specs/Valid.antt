@@ -9,7 +9,7 @@ use Rattle.life_script.specs.declared.scenario.BodyItem.{BodyItem}
 use Rattle.life_script.specs.declared.scenario.BodyItem.TheVariants.{Chunk, Trailers, Pending as PendingItem, Fault}
 use Rattle.life_script.specs.declared.scenario.Step.{Step}
 use Rattle.life_script.specs.declared.scenario.Then.{Then}
-use Rattle.life_script.specs.declared.scenario.Then.TheVariants.{Pending, Fail, Respond}
+use Rattle.life_script.specs.declared.scenario.Then.TheVariants.{Pending, Panic, Fail, Respond}
 use Rattle.life_script.specs.ScriptView.{ScriptView, ScenarioView}
 use Rattle.life_script.specs.Views.{ReplyView}
 
@@ -26,19 +26,23 @@ is_item_over (Trailers headers) = is_over headers
 is_item_over PendingItem = false
 is_item_over (Fault text) = false
 
--- whether a response has too many headers, or too many trailers in one list
+-- whether a request or a response of these headers and this body has too many headers, or too many trailers in one list
+abbrev pub is_message_over : Headers → List BodyItem → Bool
+is_message_over headers body = is_over headers || list_any is_item_over body
+
 abbrev pub is_reply_over : ReplyView → Bool
-is_reply_over reply = is_over reply.headers || list_any is_item_over reply.body
+is_reply_over reply = is_message_over reply.headers reply.body
 
 -- the same of the response that is answered, if it is one
 abbrev pub is_then_over : Then → Bool
 is_then_over Pending = false
+is_then_over (Panic text) = false
 is_then_over (Fail text) = false
 is_then_over (Respond reply) = is_reply_over reply
 
--- whether a request has too many headers, or one of its responses too many headers or trailers
+-- whether a request has too many headers or trailers, or one of its responses too many
 abbrev pub is_script_over : ScriptView → Bool
-is_script_over script = is_over script.headers || list_any (λ item. is_then_over item.then) script.polls
+is_script_over script = is_message_over script.headers script.body || list_any (λ item. is_then_over item.then) script.polls
 
 -- ---- steps
 
@@ -71,12 +75,17 @@ IsValid s = verdict s ≡ Ok tt
 
 -- ---- what a valid scenario has
 
--- no header list of a response holds too many values
+-- no header list of a body holds too many values
+abbrev pub BodyFits : List BodyItem → Type 0
+BodyFits body = (k : ℕ) (trailers : Headers) → slice_get body k ≡ Some (Trailers trailers) → length trailers ≤ MAX_HEADER_VALUES
+
+-- no header list of a response does
 pub record ReplyFits (reply : ReplyView) : Type 0 where
   pub headers : length reply.headers ≤ MAX_HEADER_VALUES
-  pub trailers : (k : ℕ) (trailers : Headers) → slice_get reply.body k ≡ Some (Trailers trailers) → length trailers ≤ MAX_HEADER_VALUES
+  pub body : BodyFits reply.body
 
--- no header list of a script holds too many values
+-- no header list of a script does
 pub record ScriptFits (script : ScriptView) : Type 0 where
   pub headers : length script.headers ≤ MAX_HEADER_VALUES
-  pub replies : (k : ℕ) (reply : ReplyView) → slice_get script.polls k ≡ Some (record { then = Respond reply }) → ReplyFits reply
+  pub body : BodyFits script.body
+  pub replies : (k asks : ℕ) (reply : ReplyView) → slice_get script.polls k ≡ Some (record { asks = asks; then = Respond reply }) → ReplyFits reply

@@ -1,7 +1,7 @@
 //! Which scenarios are driven.
 ghost use Rattle.std.specs.Prelude.{◌≡◌, ◌<◌, None, length, position, IfSome};
 ghost use Rattle.std.specs.List.{list_any};
-ghost use Rattle.life_script.specs.Valid.{is_over, is_item_over, is_reply_over, is_then_over, is_script_over, is_back, verdict, verdict_from};
+ghost use Rattle.life_script.specs.Valid.{is_over, is_item_over, is_message_over, is_reply_over, is_then_over, is_script_over, is_back, verdict, verdict_from};
 
 use crate::error::DriveError;
 use crate::headers::HeaderList;
@@ -34,11 +34,19 @@ fn is_any_item_over(items: &[BodyItem]) -> bool
     items.iter().any(is_item_over)
 }
 
+/// Whether a request or a response of these headers and this body has too many headers, or too many
+/// trailers in one list.
+fn is_message_over(headers: &HeaderList, body: &[BodyItem]) -> bool
+    ensures { result ≡ is_message_over headers.now body.now }
+{
+    is_over(headers) || is_any_item_over(body)
+}
+
 /// Whether a response has too many headers, or too many trailers in one list.
 fn is_reply_over(reply: &Reply) -> bool
     ensures { result ≡ is_reply_over reply.now }
 {
-    is_over(&reply.headers) || is_any_item_over(reply.body.as_slice())
+    is_message_over(&reply.headers, reply.body.as_slice())
 }
 
 /// The same of the response that is answered, if it is one.
@@ -47,7 +55,7 @@ fn is_then_over(item: &PollItem) -> bool
 {
     match &item.then {
         Then::Respond(reply) => is_reply_over(reply),
-        Then::Pending | Then::Fail(_) => false,
+        Then::Pending | Then::Panic(_) | Then::Fail(_) => false,
     }
 }
 
@@ -58,11 +66,12 @@ fn is_any_then_over(items: &[PollItem]) -> bool
     items.iter().any(is_then_over)
 }
 
-/// Whether a request has too many headers, or one of its responses too many headers or trailers.
+/// Whether a request has too many headers or trailers, or one of its responses too many.
 fn is_script_over(script: &Script) -> bool
     ensures { result ≡ is_script_over script.now }
 {
-    is_over(&script.headers) || is_any_then_over(script.polls.as_slice())
+    is_message_over(&script.headers, script.body.as_slice())
+        || is_any_then_over(script.polls.as_slice())
 }
 
 /// The first request with a header list that holds too many values.

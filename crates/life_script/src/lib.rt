@@ -16,8 +16,8 @@ pub use error::{DriveError, ReadError};
 pub use headers::HeaderList;
 pub use reading::read_scenario;
 pub use scenario::{
-    Act, BodyItem, BodyItems, Limits, PollItem, PollItems, Reply, Scenario, Script, Scripts, Step,
-    Steps, Then,
+    Act, BodyItem, BodyItems, CallItem, Limits, PollItem, PollItems, Reply, Scenario, Script,
+    Scripts, Step, Steps, Then,
 };
 pub use texts::{TextBuilder, answer_text, event_text};
 pub use told::{Told, ToldList, Turn, Turns};

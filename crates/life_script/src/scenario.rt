@@ -3,7 +3,7 @@ ghost use Rattle.std.specs.Prelude.{◌≡◌, IfOk};
 
 use crate::headers::HeaderList;
 use http::StatusCode;
-use life_core::{Got, List, Octets, Text, Twin};
+use life_core::{Got, List, Octets, PanicText, Text, Twin};
 use std::alloc::Global;
 use std::marker::Model;
 
@@ -16,6 +16,8 @@ pub struct Limits {
     pub timeout_status: StatusCode,
     /// How long a response's body may take.
     pub body_deadline: u64,
+    /// How many bytes a request's body may have.
+    pub byte_limit: u64,
 }
 
 /// What a body gives at one poll.
@@ -85,6 +87,8 @@ impl Twin for Reply {
 #[derive(Debug, Drop)]
 pub enum Then {
     Pending,
+    /// A panic.
+    Panic(PanicText),
     /// An error, of which this is the text.
     Fail(Text),
     Respond(Reply),
@@ -93,6 +97,9 @@ pub enum Then {
 /// What the scripted service does at one poll.
 #[derive(Debug, Drop)]
 pub struct PollItem {
+    /// How often it asks for a frame of the request's body before it answers. A scenario that is read has
+    /// at most 16.
+    pub asks: u8,
     pub then: Then,
 }
 
@@ -103,10 +110,34 @@ impl Twin for PollItem {
     fn twin(&self, alloc: Global) -> Got<PollItem> {
         let then = match &self.then {
             Then::Pending => Then::Pending,
+            Then::Panic(text) => Then::Panic(text.twin(alloc)?),
             Then::Fail(text) => Then::Fail(text.twin(alloc)?),
             Then::Respond(reply) => Then::Respond(reply.twin(alloc)?),
         };
-        Ok(PollItem { then })
+        Ok(PollItem {
+            asks: self.asks,
+            then,
+        })
+    }
+}
+
+/// What the scripted service does when it is called.
+#[derive(Debug, Drop)]
+pub enum CallItem {
+    /// It takes the request, and goes on poll by poll.
+    Serve,
+    Panic(PanicText),
+}
+
+impl Twin for CallItem {
+    fn twin(&self, alloc: Global) -> Got<CallItem> {
+        match self {
+            CallItem::Serve => Ok(CallItem::Serve),
+            CallItem::Panic(text) => match text.twin(alloc) {
+                Ok(text) => Ok(CallItem::Panic(text)),
+                Err(no_memory) => Err(no_memory),
+            },
+        }
     }
 }
 
@@ -115,6 +146,9 @@ impl Twin for PollItem {
 pub struct Script {
     /// The headers of the request.
     pub headers: HeaderList,
+    /// The body of the request.
+    pub body: BodyItems,
+    pub call: CallItem,
     pub polls: PollItems,
 }
 
@@ -123,14 +157,21 @@ impl Model for Script {
 
     ghost Value = { ScriptView };
 
-    ghost view = { λ s. record { headers = s.headers; polls = s.polls.items } };
+    ghost view = { λ s. record { headers = s.headers; body = s.body.items; call = s.call; polls = s.polls.items } };
 }
 
 impl Twin for Script {
     fn twin(&self, alloc: Global) -> Got<Script> {
         let headers = self.headers.twin(alloc)?;
+        let body = self.body.twin_items(alloc)?;
+        let call = self.call.twin(alloc)?;
         let polls = self.polls.twin_items(alloc)?;
-        Ok(Script { headers, polls })
+        Ok(Script {
+            headers,
+            body,
+            call,
+            polls,
+        })
     }
 }
 
@@ -177,3 +218,6 @@ impl Model for Scenario {
 
     ghost view = { λ s. record { requests = s.requests.items; steps = s.steps.items; end = s.end } };
 }
+
+#[cfg(test)]
+mod tests;

@@ -1,10 +1,13 @@
 //! The exact texts of answers and events.
 ghost use Rattle.std.specs.Prelude.{◌≡◌, ◌<◌, [], ◌∷◌, ◌++◌, decimal, OnOk, IfOk};
-ghost use Rattle.life_script.specs.Texts.{hex_digit, escaped, shown, end_text, joined, value_text, values_text, entry_text, fields_text, seen_text, fault_text, answer_text, kind_text, event_text, act_text};
+ghost use Rattle.life_script.specs.Texts.{hex_digit, escaped, shown, end_text, joined, value_text, values_text, entry_text, fields_text, chunk_text, trailers_text, seen_text, inner_text, fault_text, answer_text, kind_text, dropped_text, level_name, said_text, panic_text, handed_text, event_text, act_text};
 
 use crate::answer::{Answer, Seen};
 use crate::scenario::Act;
-use life_core::{BodyError, DropKind, Event, Field, Fields, Got, Octets, Shown, Text};
+use life_core::{
+    BodyError, DropKind, Event, Field, Fields, Got, Handed, Latency, Level, Octets, PanicText,
+    Shown, Text,
+};
 use std::alloc::Global;
 use std::marker::Model;
 
@@ -175,20 +178,38 @@ impl TextBuilder {
         self.text("}")
     }
 
+    /// Puts a chunk at the end.
+    fn chunk(&mut self, chunk: &Octets) -> Got<()>
+        ensures { OnOk result (self.new ≡ self.old ++ chunk_text chunk.now) }
+    {
+        self.text("data ")?;
+        self.shown(chunk.as_slice())
+    }
+
+    /// Puts trailers at the end.
+    fn trailers(&mut self, trailers: &Fields) -> Got<()>
+        ensures { OnOk result (self.new ≡ self.old ++ trailers_text trailers.now) }
+    {
+        self.text("trailers ")?;
+        self.fields(trailers)
+    }
+
     /// Puts what a frame held at the end.
     fn seen(&mut self, seen: &Seen) -> Got<()>
         ensures { OnOk result (self.new ≡ self.old ++ seen_text seen.now) }
     {
         match seen {
-            Seen::Chunk(chunk) => {
-                self.text("data ")?;
-                self.shown(chunk.as_slice())
-            }
-            Seen::Trailers(trailers) => {
-                self.text("trailers ")?;
-                self.fields(trailers)
-            }
+            Seen::Chunk(chunk) => self.chunk(chunk),
+            Seen::Trailers(trailers) => self.trailers(trailers),
         }
+    }
+
+    /// Puts the fault of a wrapped body at the end.
+    fn inner_fault(&mut self, fault: &Text) -> Got<()>
+        ensures { OnOk result (self.new ≡ self.old ++ inner_text fault.now) }
+    {
+        self.text("fault inner ")?;
+        self.shown_text(fault)
     }
 
     /// Puts a fault of a body at the end.
@@ -197,10 +218,8 @@ impl TextBuilder {
     {
         match fault {
             BodyError::Elapsed => self.text("fault elapsed"),
-            BodyError::Inner(inner) => {
-                self.text("fault inner ")?;
-                self.shown_text(inner)
-            }
+            BodyError::LengthLimit => self.text("fault length-limit"),
+            BodyError::Inner(inner) => self.inner_fault(inner),
         }
     }
 
@@ -252,16 +271,72 @@ impl TextBuilder {
         }
     }
 
-    /// Puts an event at the end.
-    pub fn event(&mut self, alloc: Global, event: &Event) -> Got<()>
-        ensures { OnOk result (self.new ≡ self.old ++ event_text event.now) }
+    /// Puts at the end what was dropped early, and how long after its call.
+    fn dropped(&mut self, alloc: Global, what: &DropKind, latency: &Latency) -> Got<()>
+        ensures { OnOk result (self.new ≡ self.old ++ dropped_text what.now latency.now) }
     {
-        let Event::Dropped { what, latency } = event;
         self.text("dropped ")?;
         self.kind(alloc, what)?;
         self.text(" latency ")?;
         let shown = latency.to_string(alloc)?;
         self.text(shown.as_str())
+    }
+
+    /// Puts a level's name at the end.
+    fn level(&mut self, alloc: Global, level: &Level) -> Got<()>
+        ensures { OnOk result (self.new ≡ self.old ++ level_name level.now) }
+    {
+        let name = level.to_string(alloc)?;
+        self.text(name.as_str())
+    }
+
+    /// Puts what a panic said at the end.
+    fn said(&mut self, text: &PanicText) -> Got<()>
+        ensures { OnOk result (self.new ≡ self.old ++ said_text text.now) }
+    {
+        match text {
+            PanicText::Known(text) => self.shown_text(text),
+            PanicText::Unknown => self.text("unknown"),
+        }
+    }
+
+    /// Puts a panic at the end.
+    fn panicked(&mut self, alloc: Global, level: &Level, text: &PanicText) -> Got<()>
+        ensures { OnOk result (self.new ≡ self.old ++ panic_text level.now text.now) }
+    {
+        self.text("panic ")?;
+        self.level(alloc, level)?;
+        self.text(" ")?;
+        self.said(text)
+    }
+
+    /// Puts at the end what a service was handed.
+    fn handed(&mut self, got: &Handed) -> Got<()>
+        ensures { OnOk result (self.new ≡ self.old ++ handed_text got.now) }
+    {
+        match got {
+            Handed::Chunk(chunk) => self.chunk(chunk),
+            Handed::Trailers(trailers) => self.trailers(trailers),
+            Handed::Pending => self.text("pending"),
+            Handed::End => self.text("end"),
+            Handed::LengthLimit => self.fault(&BodyError::LengthLimit),
+            Handed::Elapsed => self.fault(&BodyError::Elapsed),
+            Handed::Inner(fault) => self.inner_fault(fault),
+        }
+    }
+
+    /// Puts an event at the end.
+    pub fn event(&mut self, alloc: Global, event: &Event) -> Got<()>
+        ensures { OnOk result (self.new ≡ self.old ++ event_text event.now) }
+    {
+        match event {
+            Event::Panic { level, text } => self.panicked(alloc, level, text),
+            Event::Handed { got } => {
+                self.text("handed ")?;
+                self.handed(got)
+            }
+            Event::Dropped { what, latency } => self.dropped(alloc, what, latency),
+        }
     }
 
     /// Puts an act at the end.

@@ -1,7 +1,7 @@
 -- The composed histories give the answers of the table.
 use Rattle.std.proofs.Common.{◌≡◌, ℕ, suc, ◌-◌, ◌<◌, List, [], ◌∷◌, ◌++◌, length, Bool, true, false, Option, Some, None, Ok, Err, Result, refl, ap, ◌∙◌, arith, le-ltb}
 use Rattle.std.specs.Prelude.{slice_get, slice_index, if◌then◌else◌}
-use Rattle.std.proofs.lemmas.Bool.{eq-eqb, ne_eqb}
+use Rattle.std.proofs.lemmas.Bool.{eq-eqb, le-leb, lt-leb, ne_eqb}
 use Rattle.std.proofs.lemmas.List.{get_or_at, get_or_append_left}
 use Rattle.http_body.specs.declared.frame.Frame.{Frame}
 use Rattle.life_core.specs.declared.body.BodyError.{BodyError}
@@ -25,25 +25,23 @@ use Rattle.life_script.specs.declared.answer.Seen.TheVariants as seen
 use Rattle.life_script.specs.declared.scenario.BodyItem.{BodyItem}
 use Rattle.life_script.specs.declared.scenario.BodyItem.TheVariants as body_item
 use Rattle.life_script.specs.declared.scenario.Limits.{Limits}
-use Rattle.life_script.specs.declared.scenario.PollItem.{PollItem}
-use Rattle.life_script.specs.declared.scenario.Then.{Then}
-use Rattle.life_script.specs.declared.scenario.Then.TheVariants as then_
-use Rattle.life_stack.specs.Story.{Outcome, Replied, due_reply, head, tells_after, shown_headers, item_answer, body_answer, head_answer, later_answer, by_head, is_ending}
-use Rattle.life_stack.specs.Driven.{BodyPlan, Head, body_plan, named, item_says, timed_body_history, future_history}
+use Rattle.life_stack.specs.Story.{Outcome, Replied, due_reply, head, tells_after, item_answer, body_answer, head_answer, later_answer, by_head, is_ending, poll_events, undue_events}
+use Rattle.life_stack.specs.Driven.{BodyPlan, Head, body_plan, named, service_says, timed_body_history, future_history}
+use Rattle.life_stack.specs.Handing.{shown_headers}
 use Rattle.life_stack.specs.Script.{item_frame}
 use Rattle.life_stack.specs.StandsAt.{BodySaid}
 use Rattle.life_stack.proofs.Heads.{head_of, head_more}
 
 -- what the service says under the timer
 abbrev pub timed_says : Limits → Numbered → ℕ → ℕ → ℕ → Said Head BodyPlan (List ℕ)
-timed_says limits script t0 k t = if due t0 limits.timeout t then Gives (limits.timeout_status, []) (body_plan (due_reply limits)) else said_with (named (ident script)) (item_says (slice_get script.script.polls k))
+timed_says limits script t0 k t = if due t0 limits.timeout t then Gives (limits.timeout_status, []) (body_plan (due_reply limits)) else said_with (named (ident script)) (service_says limits script.script k)
 
 pub head_said : (limits : Limits) (script : Numbered) (t0 : ℕ) (ps : List ℕ) (t : ℕ) → head limits script t0 ps ≡ None →
     head limits script t0 (ps ++ t ∷ []) ≡ head_of (length ps) (timed_says limits script t0 (length ps) t)
 head_said limits script t0 ps t e = head_more limits script t0 ps t e ∙ go (due t0 limits.timeout t)
   where
-    go : (b : Bool) → (if b then Some (length ps, Replied (due_reply limits)) else head_of (length ps) (said_with (named (ident script)) (item_says (slice_get script.script.polls (length ps)))))
-        ≡ head_of (length ps) (if b then Gives (limits.timeout_status, []) (body_plan (due_reply limits)) else said_with (named (ident script)) (item_says (slice_get script.script.polls (length ps))))
+    go : (b : Bool) → (if b then Some (length ps, Replied (due_reply limits)) else head_of (length ps) (said_with (named (ident script)) (service_says limits script.script (length ps))))
+        ≡ head_of (length ps) (if b then Gives (limits.timeout_status, []) (body_plan (due_reply limits)) else said_with (named (ident script)) (service_says limits script.script (length ps)))
     go true = refl
     go false = refl
 
@@ -84,13 +82,23 @@ body_table limits ph r past q l = go (due ph limits.body_deadline q) refl
     go true e = refl
     go false e = rw (undue_all ph limits.body_deadline q past l e) (by_item (slice_get r.body (length past)))
 
--- A poll of the future records nothing, and a future that waits leaves one record.
+-- What a poll of the future records.
+pub future_events : (limits : Limits) (script : Numbered) (t0 : ℕ) (past : List ℕ) (t : ℕ) → (future_history limits script t0).events past t ≡ undue_events limits script t0 (length past) t
+future_events limits script t0 past t = refl
+
+-- up to the head, and after it
+pub up_to_now : (limits : Limits) (script : Numbered) (t0 k t : ℕ) (said : Said Head BodyPlan (List ℕ)) → poll_events limits script t0 k t (head_of k said) ≡ undue_events limits script t0 k t
+up_to_now limits script t0 k t Waits = refl
+up_to_now limits script t0 k t (Gives h p) = rw (le-leb k k (omega arith)) refl
+up_to_now limits script t0 k t (Fails x) = rw (le-leb k k (omega arith)) refl
+
+pub none_later : (limits : Limits) (script : Numbered) (t0 k t h : ℕ) (o : Outcome) → h < k → poll_events limits script t0 k t (Some (h, o)) ≡ []
+none_later limits script t0 k t h o below = rw (lt-leb k h below) refl
+
+-- A poll of a body records nothing, and a future that waits leaves one record.
 no_events : (b : Bool) → ◌≡◌ {A = List Event} (if b then [] else []) []
 no_events true = refl
 no_events false = refl
-
-pub future_events : (limits : Limits) (script : Numbered) (t0 : ℕ) (past : List ℕ) (t : ℕ) → (future_history limits script t0).events past t ≡ []
-future_events limits script t0 past t = no_events (due t0 limits.timeout t)
 
 pub frame_events : (limits : Limits) (ph : ℕ) (p : BodyPlan) (past : List ℕ) (q : ℕ) → (timed_body_history limits (ph, p)).events past q ≡ []
 frame_events limits ph p past q = no_events (due ph limits.body_deadline q)

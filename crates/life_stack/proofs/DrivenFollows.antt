@@ -1,50 +1,203 @@
 -- The driven stack follows its histories: each layer's lemma over the one below it.
-use Rattle.std.proofs.Common.{ℕ, []}
-use Rattle.life_core.specs.History.{BodyFollows, FutureFollows, ServiceFollows, Where}
+use Rattle.std.proofs.Common.{◌≡◌, ℕ, suc, List, [], ◌∷◌, ◌++◌, length, Bool, true, false, Option, Some, None, Ok, Result, refl, sym, ap, subst, arith, append-nil}
+use Rattle.std.proofs.lemmas.Bool.{le-leb}
+use Rattle.std.specs.Prelude.{codes, slice_get, ⊤}
+use Rattle.std.specs.declared.convert.Infallible.{Infallible}
+use Rattle.life_core.specs.Full.{FullFrames, LeavesNothing, full_ends}
+use Rattle.life_core.specs.History.{BodyFollows, FutureFollows, FutureHistory, Grew, Matches, ServiceFollows, Where, Waiting, Answered, left_at}
+use Rattle.life_core.specs.Limited.{LimitedLeaves}
+use Rattle.life_core.specs.Meaning.{Leaves, Polls}
+use Rattle.life_core.specs.Message.{IsBare, IsText}
+use Rattle.life_core.specs.Moment.{Moment}
+use Rattle.life_core.specs.OneChunk.{FullStands, TellsChunk, TellsEnd}
+use Rattle.life_core.specs.Recorded.{Recorded}
 use Rattle.life_core.specs.declared.event.DropKind.TheVariants as drop_kind
-use Rattle.life_core.specs.Message.{IsBare}
+use Rattle.life_core.specs.declared.event.Event.{Event}
 use Rattle.life_core.specs.declared.message.Request.{Request}
+use Rattle.life_core.specs.declared.message.Response.{Response}
 use Rattle.life_core.specs.declared.message.ResponseHead.{ResponseHead}
+use Rattle.life_core.proofs.Bodies.{box_follows, full_never_faults}
+use Rattle.life_core.proofs.Growth.{grew_none}
 use Rattle.life_drop.specs.Note.{noting}
+use Rattle.life_drop.specs.Stands.{DropStands}
 use Rattle.life_drop.proofs.DropFollows.{drop_follows, drop_body_follows, drop_serves}
 use Rattle.life_drop.proofs.NoteFollows.{note_records, note_future, note_start, note_body}
-use Rattle.life_time.specs.DeadlineBody.{DeadlineBodyLeaves, DeadlineFrames, deadline_ends}
-use Rattle.life_drop.specs.Stands.{DropStands}
-use Rattle.life_time.specs.Stands.{DeadlineBodyStands, DeadlineStands, TimeoutStands}
-use Rattle.life_time.proofs.DeadlineFollows.{deadline_follows, deadline_body_follows, deadline_serves}
-use Rattle.life_time.proofs.TimeoutFollows.{timeout_follows, timeout_serves}
-use Rattle.std.specs.Prelude.{Some, ⊤}
 use Rattle.life_head.specs.Ids.{NumberMakes, x_request_id_name}
 use Rattle.life_head.specs.declared.request_id.propagating.PropagateRequestIdResponseFuture.{PropagateRequestIdResponseFuture}
 use Rattle.life_head.proofs.RequestIdFollows.{propagate_follows, propagate_keeps, propagate_serves, set_serves}
+use Rattle.life_limit.specs.Stands.{AsksBounded, catch_history, limit_events, limit_history, with_panic, caught}
+use Rattle.life_limit.specs.declared.limit.body.ResponseBody.TheVariants.{PayloadTooLarge, Body}
+use Rattle.life_limit.proofs.CatchFollows.{catch_follows, catch_keeps, catch_serves, panic_handler_follows}
+use Rattle.life_limit.proofs.LimitFollows.{limit_body_follows, limit_follows, limit_keeps, limit_serves}
+use Rattle.life_script.specs.ScriptView.{ScriptView}
 use Rattle.life_script.specs.Valid.{ScriptFits}
-use Rattle.life_stack.specs.Ident.{Numbered, ident}
-use Rattle.life_stack.proofs.Naming.{head_named, request_named}
+use Rattle.life_script.specs.declared.scenario.CallItem.{CallItem}
+use Rattle.life_script.specs.declared.scenario.CallItem.TheVariants as call_item
 use Rattle.life_script.specs.declared.scenario.Limits.{Limits}
-use Rattle.life_stack.specs.Driven.{drive_calls, drive_polls, drive_leaves, drive_frames, drive_body_leaves, drive_ends, Head, Heads, TellsHead, body_plan, named, StackStands, FutureStands, future_history, timed_body_history, ScriptBodyStands, BodyStands, body_history}
-use Rattle.life_stack.specs.Script.{IsDefaultBody, IsDefaultExt, IsRequestOf, ext_id, ext_number, with_id, ScriptFrames, ScriptLeaves, tells_end}
+use Rattle.life_script.specs.declared.scenario.PollItem.{PollItem}
+use Rattle.life_script.specs.declared.scenario.Then.{Then}
+use Rattle.life_script.specs.declared.scenario.Then.TheVariants as then_
+use Rattle.life_time.specs.DeadlineBody.{DeadlineBodyLeaves, DeadlineFrames, deadline_ends}
+use Rattle.life_time.specs.Stands.{DeadlineBodyStands, DeadlineStands, TimeoutStands}
+use Rattle.life_time.proofs.DeadlineFollows.{deadline_follows, deadline_body_follows, deadline_serves}
+use Rattle.life_time.proofs.TimeoutFollows.{timeout_follows, timeout_serves}
+use Rattle.life_stack.specs.Driven.{BodyPlan, BodyStands, FutureStands, Head, Heads, InnerBody, InnerBodyStands, InnerFuture, InnerServes, InnerStands, IsDefaultInner, ScriptBodyStands, StackStands, TellsHead, body_history, body_plan, call_hands, call_tells, decided_says, drive_body_leaves, drive_calls, drive_ends, drive_frames, drive_leaves, drive_polls, future_history, inner_body_leaves, inner_calls, inner_ends, inner_frames, inner_leaves, inner_polls, item_says, item_tells, named, script_body_history, service_history, timed_body_history}
+use Rattle.life_stack.specs.Handing.{decided, decided_events, is_too_large, panic_at, panic_event, panic_reply, room, text_reply, too_large_reply}
+use Rattle.life_stack.specs.Ident.{Numbered, ident}
+use Rattle.life_stack.specs.Script.{IsDefaultExt, IsRequestOf, ScriptFrames, ScriptLeaves, ext_id, ext_number, item_frame, tells_end, with_id}
 use Rattle.life_stack.specs.Story.{due_reply}
 use Rattle.life_stack.specs.declared.ext.Ext.{Ext}
 use Rattle.life_stack.specs.declared.script_service.ScriptBody.{ScriptBody}
-use Rattle.life_stack.specs.declared.script_service.ScriptFuture.{ScriptFuture}
-use Rattle.life_stack.proofs.ScriptFollows.{script_follows, script_body_follows, script_keeps, script_serves}
+use Rattle.life_stack.proofs.Handing.{no_item, script_body_follows}
+use Rattle.life_stack.proofs.Naming.{head_named, request_named}
+use Rattle.life_stack.proofs.ScriptFollows.{AsksFor, script_follows, script_keeps, script_serves}
 
-timed_body : (limits : Limits) → BodyFollows (DeadlineFrames ScriptFrames) (DeadlineBodyLeaves ScriptLeaves) (deadline_ends tells_end) (DeadlineBodyStands limits.body_deadline ScriptBodyStands) (timed_body_history limits)
-timed_body limits = deadline_body_follows _ _ _ _ _ limits.body_deadline script_body_follows
+-- BODIES.
 
-default : (limits : Limits) (b : ScriptBody) → IsDefaultBody b → ScriptBodyStands (body_plan (due_reply limits)) b []
-default limits b d = record { items = d.items; tells = d.tells }
+inner_body : BodyFollows inner_frames inner_body_leaves inner_ends InnerBodyStands script_body_history
+inner_body = limit_body_follows _ _ _ _ script_body_history
+    (box_follows ScriptFrames ScriptLeaves tells_end ScriptBodyStands (FullFrames {E = Infallible}) LeavesNothing full_ends (FullStands script_body_history) script_body_history script_body_follows (full_never_faults script_body_history))
+    (full_never_faults script_body_history)
+
+timed_body : (limits : Limits) → BodyFollows (DeadlineFrames inner_frames) (DeadlineBodyLeaves inner_body_leaves) (deadline_ends inner_ends) (DeadlineBodyStands limits.body_deadline InnerBodyStands) (timed_body_history limits)
+timed_body limits = deadline_body_follows _ _ _ _ _ limits.body_deadline inner_body
+
+-- the plan of one chunk, and of none
+one_text : (status : ℕ) (text : List ℕ) → TellsChunk text (script_body_history (body_plan (text_reply status text)))
+one_text status text = record {
+  first = λ q. refl;
+  later = λ p q past. ap item_frame (no_item (length past));
+  untold = refl;
+  ended = λ p past. le-leb 1 (suc (length past)) (omega arith);
+  events = λ past q. refl;
+  left = λ past q. refl;
+}
+
+no_items : (limits : Limits) → TellsEnd (script_body_history (body_plan (due_reply limits)))
+no_items limits = record {
+  frame = λ past q. ap item_frame (no_item (length past));
+  ends = λ past. le-leb 0 (length past) (omega arith);
+  events = λ past q. refl;
+  left = λ past q. refl;
+}
+
+default : (limits : Limits) (b : InnerBody) → IsDefaultInner b → InnerBodyStands (body_plan (due_reply limits)) b []
+default limits (Body box) d = rw d (no_items limits)
+default limits (PayloadTooLarge b) d = absurd d
+
+-- HEADS.
 
 -- a head without headers
 bare : (status : ℕ) (head : ResponseHead Ext) → IsBare IsDefaultExt status head → TellsHead (status, []) head
 bare status head b = record { status_is = b.status_is; headers_are = b.no_headers }
+
+-- that of a plain text
+plain : (status : ℕ) (text : List ℕ) (head : ResponseHead Ext) → IsText IsDefaultExt status head → Heads ((text_reply status text).status, (text_reply status text).headers) head
+plain status text head t = (record { status_is = t.status_is; headers_are = t.headers_are }, omega arith)
+
+-- THE LAYERS THAT MAY ANSWER in the service's place.
+
+-- one history in place of another that says the same
+module _ {H P F B X E : Type 0} (polls : Polls F (Result (Response B X) E)) (leaves : Leaves F) (Tells : H → ResponseHead X → Type 0) (Stands : F → Where → Type 0) (Bodies : P → B → List ℕ → Type 0) (h g : FutureHistory H P E)
+    (says : (past : List ℕ) (t : ℕ) → h.says past t ≡ g.says past t) (events : (past : List ℕ) (t : ℕ) → h.events past t ≡ g.events past t) (left : (past : List ℕ) (t : ℕ) → h.left past t ≡ g.left past t)
+    (inner : FutureFollows polls leaves Tells Stands Bodies h) where
+  left_is : (w : Where) (t : ℕ) → left_at h w t ≡ left_at g w t
+  left_is (Waiting past) t = left past t
+  left_is Answered t = refl
+
+  follows_as : FutureFollows polls leaves Tells Stands Bodies g
+  follows_as = record {
+    poll = λ past f was m a new now s p. let i = inner.poll past f was m a new now s p in record {
+      answer = subst (λ x. Matches Tells Bodies x a) (says past m.now) i.answer;
+      grew = subst (λ es. Grew was now es) (events past m.now) i.grew;
+      stands = i.stands;
+    };
+    left = λ w f was m u now s l. subst (λ es. Grew was now es) (left_is w m.now) (inner.left w f was m u now s l);
+    refused = λ w f was m e now s l. rw (sym (left_is w m.now)) (inner.refused w f was m e now s l);
+  }
+
+abbrev large_head : Head
+large_head = (too_large_reply.status, too_large_reply.headers)
+
+abbrev panic_head : Head
+panic_head = (panic_reply.status, panic_reply.headers)
+
+abbrev guarded_history : Bool → CallItem → ℕ → ScriptView → FutureHistory Head BodyPlan (List ℕ)
+guarded_history large call left script = limit_history large large_head (body_plan too_large_reply) (catch_history (λ text. panic_event text ∷ []) panic_head (body_plan panic_reply) (record {
+  says = λ past t. call_tells call (slice_get script.polls (length past));
+  events = λ past t. call_hands call left script (length past);
+  left = λ past t. [];
+}))
+
+item_caught : (o : Option PollItem) → caught panic_head (body_plan panic_reply) (item_tells o) ≡ item_says o
+item_caught None = refl
+item_caught (Some item) = go item.then
+  where
+    go : (t : Then) → caught panic_head (body_plan panic_reply) (item_tells (Some (record item { then = t }))) ≡ item_says (Some (record item { then = t }))
+    go then_.Pending = refl
+    go (then_.Panic text) = refl
+    go (then_.Fail error) = refl
+    go (then_.Respond reply) = refl
+
+item_fired : (o : Option PollItem) (es : List Event) → with_panic {H = Head} {P = BodyPlan} {X = List ℕ} (λ text. panic_event text ∷ []) (item_tells o) es ≡ es ++ panic_at o
+item_fired None es = sym (append-nil es)
+item_fired (Some item) es = go item.then
+  where
+    go : (t : Then) → with_panic {H = Head} {P = BodyPlan} {X = List ℕ} (λ text. panic_event text ∷ []) (item_tells (Some (record item { then = t }))) es ≡ es ++ panic_at (Some (record item { then = t }))
+    go then_.Pending = sym (append-nil es)
+    go (then_.Panic text) = refl
+    go (then_.Fail error) = sym (append-nil es)
+    go (then_.Respond reply) = sym (append-nil es)
+
+guarded_says : (large : Bool) (call : CallItem) (left : ℕ) (script : ScriptView) (past : List ℕ) (t : ℕ) → (guarded_history large call left script).says past t ≡ decided_says (decided large call) script.polls (length past)
+guarded_says true call left script past t = refl
+guarded_says false call_item.Serve left script past t = item_caught (slice_get script.polls (length past))
+guarded_says false (call_item.Panic text) left script past t = refl
+
+guarded_events : (large : Bool) (call : CallItem) (left : ℕ) (script : ScriptView) (past : List ℕ) (t : ℕ) → (guarded_history large call left script).events past t ≡ decided_events (decided large call) left script (length past)
+guarded_events true call left script past t = refl
+guarded_events false call_item.Serve left script past t = item_fired (slice_get script.polls (length past)) (call_hands call_item.Serve left script (length past))
+guarded_events false (call_item.Panic text) left script past t = refl
+
+guarded_left : (large : Bool) (call : CallItem) (left : ℕ) (script : ScriptView) (past : List ℕ) (t : ℕ) → (guarded_history large call left script).left past t ≡ []
+guarded_left true call left script past t = refl
+guarded_left false call left script past t = refl
+
+inner_follows : (limits : Limits) (script : ScriptView) → FutureFollows inner_polls inner_leaves Heads (InnerStands limits script) InnerBodyStands (service_history limits script)
+inner_follows limits script =
+    let large = is_too_large limits script in let left = room limits script in
+    follows_as _ _ _ _ _ (guarded_history large script.call left script) _ (guarded_says large script.call left script) (guarded_events large script.call left script) (guarded_left large script.call left script)
+    (limit_follows _ _ IsDefaultExt Heads large_head (plain 413 (codes "length limit exceeded")) _ _ script_body_history (body_plan too_large_reply) (one_text 413 (codes "length limit exceeded")) _
+    (catch_follows _ _ _ (λ _. ⊤) Heads panic_head (body_plan panic_reply) (λ text. panic_event text ∷ []) _ _ _ script_body_history _
+    (panic_handler_follows IsDefaultExt Heads panic_head (plain 500 (codes "Service panicked")) script_body_history (body_plan panic_reply) (one_text 500 (codes "Service panicked")))
+    (script_follows left script)) large)
+
+no_events : (large : Bool) → limit_events large [] ≡ []
+no_events true = refl
+no_events false = refl
+
+-- to give up a request's body records nothing
+quiet : (body : ScriptBody) (was : Recorded) (m : Moment) (u : Unit) (now : Recorded) → ScriptLeaves body was m (Ok u) now → Grew was now []
+quiet body was m u now d = grew_none was now d.1
+
+inner_serves : (limits : Limits) (script : Numbered) →
+    ServiceFollows inner_calls (AsksBounded (is_too_large limits script.script) limits.byte_limit (AsksFor (room limits script.script) script.script script.number)) (InnerServes limits script) (λ t. InnerStands limits script.script) []
+inner_serves limits script =
+    let large = is_too_large limits script.script in
+    subst (λ es. ServiceFollows inner_calls (AsksBounded large limits.byte_limit (AsksFor (room limits script.script) script.script script.number)) (InnerServes limits script) (λ t. InnerStands limits script.script) es) (no_events large)
+    (limit_serves _ ScriptLeaves _ _ _ _ quiet (catch_serves _ (LimitedLeaves ScriptLeaves) _ (λ _. ⊤) _ _ _ (script_serves (room limits script.script) script.script script.number)) large limits.byte_limit)
+
+inner_keeps : (limits : Limits) (script : Numbered) → ServiceFollows {R = Request ScriptBody Ext} inner_calls (λ r. ⊤) (InnerServes limits script) (λ t (f : InnerFuture) (w : Where). ⊤) []
+inner_keeps limits script = limit_keeps _ ScriptLeaves _ _ quiet (catch_keeps _ (LimitedLeaves ScriptLeaves) (λ _. ⊤) _ _ _ (script_keeps script.script script.number)) limits.byte_limit
+
+-- THE STACK.
 
 pub future_follows : (limits : Limits) (script : Numbered) (t0 : ℕ) →
     FutureFollows drive_polls drive_leaves TellsHead (FutureStands limits script t0) (BodyStands limits t0) (future_history limits script t0)
 future_follows limits script t0 = drop_follows _ _ _ _ _ _ _ _ _ _ _ _ _ _ (note_body TellsHead (λ h. h.0) (λ g head h. h.status_is) t0) _ (noting drop_kind.Future t0) _ note_records
     (deadline_follows _ _ _ _ _ _ limits.body_deadline
     (timeout_follows _ _ _ _ _ (record { start = t0; length = limits.timeout }) limits.timeout_status (limits.timeout_status, []) (bare limits.timeout_status) _ _ _ (body_plan (due_reply limits)) (default limits)
-    (propagate_follows _ _ _ ext_id with_id x_request_id_name (Some (ident script)) Heads TellsHead (named (ident script)) (head_named (ident script)) _ _ _ (script_follows script.script))))
+    (propagate_follows _ _ _ ext_id with_id x_request_id_name (Some (ident script)) Heads TellsHead (named (ident script)) (head_named (ident script)) _ _ _ (inner_follows limits script.script))))
     (timed_body limits)
 
 pub body_follows : (limits : Limits) (t0 : ℕ) → BodyFollows drive_frames drive_body_leaves drive_ends (BodyStands limits t0) (body_history limits t0)
@@ -52,16 +205,16 @@ body_follows limits t0 = drop_body_follows _ _ _ _ _ (λ (h : Head). noting (dro
 
 pub stack_follows : (limits : Limits) (script : Numbered) →
     ServiceFollows {R = Request ScriptBody Ext} drive_calls (λ req. IsRequestOf script.script script.number req × ScriptFits script.script) (StackStands limits script) (FutureStands limits script) []
-stack_follows limits script = set_serves _ (NumberMakes ext_number) ext_id with_id ScriptLeaves _ _ _ _ (λ _. ⊤) (λ maker req made new k m. tt) x_request_id_name _ (request_named script)
+stack_follows limits script = set_serves _ (NumberMakes ext_number) ext_id with_id ScriptLeaves _ _ _ _ (λ _. ⊤) (λ maker req made new k m. tt) x_request_id_name _ (request_named limits script)
     (drop_serves _ _ _ _ _ _ _ _ note_future _ _ note_start
     (deadline_serves _ _ _ _ _ (timeout_serves _ _ _ _ _
-    (propagate_serves _ ScriptLeaves _ _ _ _ (script_serves script.script script.number) x_request_id_name (Some (ident script))) limits.timeout limits.timeout_status) limits.body_deadline))
+    (propagate_serves _ ScriptLeaves _ _ _ _ (inner_serves limits script) x_request_id_name (Some (ident script))) limits.timeout limits.timeout_status) limits.body_deadline))
 
 -- whatever is asked, the stack stands for what it stood for
-pub stack_keeps : (limits : Limits) (script : Numbered) → ServiceFollows {R = Request ScriptBody Ext} drive_calls (λ r. Unit) (StackStands limits script)
+pub stack_keeps : (limits : Limits) (script : Numbered) → ServiceFollows {R = Request ScriptBody Ext} drive_calls (λ r. ⊤) (StackStands limits script)
     (λ t0. DropStands (noting drop_kind.Future t0) t0 (DeadlineStands limits.body_deadline
-    (TimeoutStands (record { start = t0; length = limits.timeout }) limits.timeout_status (λ (f : PropagateRequestIdResponseFuture ScriptFuture) (w : Where). Unit)))) []
-stack_keeps limits script = set_serves _ (NumberMakes ext_number) ext_id with_id ScriptLeaves (λ r. Unit) _ _ _ (λ _. ⊤) (λ maker req made new k m. tt) x_request_id_name (λ r. Unit) (λ maker req maker_new new k q t. tt)
+    (TimeoutStands (record { start = t0; length = limits.timeout }) limits.timeout_status (λ (f : PropagateRequestIdResponseFuture InnerFuture) (w : Where). ⊤)))) []
+stack_keeps limits script = set_serves _ (NumberMakes ext_number) ext_id with_id ScriptLeaves (λ r. ⊤) _ _ _ (λ _. ⊤) (λ maker req made new k m. tt) x_request_id_name (λ r. ⊤) (λ maker req maker_new new k q t. tt)
     (drop_serves _ _ _ _ _ _ _ _ note_future _ _ note_start
     (deadline_serves _ _ _ _ _ (timeout_serves _ _ _ _ _
-    (propagate_keeps _ ScriptLeaves _ _ _ (script_keeps script.script script.number) x_request_id_name) limits.timeout limits.timeout_status) limits.body_deadline))
+    (propagate_keeps _ ScriptLeaves _ _ _ (inner_keeps limits script) x_request_id_name) limits.timeout limits.timeout_status) limits.body_deadline))

@@ -1,21 +1,22 @@
 -- The early drops of a whole story are those of the table.
-use Rattle.std.proofs.Common.{◌≡◌, ℕ, suc, ◌-◌, List, [], ◌∷◌, ◌++◌, length, flat_map, Bool, true, false, Option, Some, None, refl, sym, ap, ◌∙◌, append-nil, append_assoc}
-use Rattle.std.specs.Prelude.{slice_get, slice_index, nat_lt, if◌then◌else◌, ◌||◌, ◌==◌}
+use Rattle.std.proofs.Common.{◌≡◌, ℕ, zero, suc, ◌-◌, List, [], ◌∷◌, ◌++◌, length, flat_map, Bool, true, false, Option, Some, None, refl, sym, ap, ◌∙◌, append-nil, append_assoc}
+use Rattle.std.specs.Prelude.{slice_get, nat_le, if◌then◌else◌, ◌||◌}
 use Rattle.life_core.specs.Due.{due}
 use Rattle.life_core.specs.declared.event.DropKind.TheVariants as drop_kind
 use Rattle.life_core.specs.declared.event.Event.{Event}
 use Rattle.life_core.specs.declared.event.Event.TheVariants as event
 use Rattle.life_stack.specs.Ident.{Numbered}
-use Rattle.life_script.specs.Views.{ReplyView}
 use Rattle.life_script.specs.declared.answer.Answer.{Answer}
 use Rattle.life_script.specs.declared.answer.Answer.TheVariants as ans
 use Rattle.life_script.specs.declared.scenario.Act.TheVariants as act
 use Rattle.life_script.specs.declared.scenario.BodyItem.{BodyItem}
-use Rattle.life_script.specs.declared.scenario.BodyItem.TheVariants as body_item
+use Rattle.life_script.specs.declared.scenario.PollItem.{PollItem}
+use Rattle.life_script.specs.declared.scenario.Then.{Then}
+use Rattle.life_script.specs.declared.scenario.Then.TheVariants as then_
 use Rattle.life_script.specs.declared.scenario.Limits.{Limits}
 use Rattle.life_stack.specs.Own.{Own, called_at, first_drop, polls, dropped_at, drop_time}
-use Rattle.life_stack.specs.Story.{Outcome, Replied, Failed, head, item_answer, head_answer, later_answer, by_head, drop_answer, on_call, on_drop, answer, answers, any_ending, kind_of, drops_at, drops, events_of, turns_after, unless_dropped, at_end, dropped_in, drop_records, story}
-use Rattle.life_core.specs.declared.body.BodyError.TheVariants.{Elapsed}
+use Rattle.life_stack.specs.Story.{Outcome, Replied, Failed, head, drop_answer, drop_events, on_call, on_drop, on_poll_events, answer, answers, any_ending, kind_of, drops_at, drops, events, poll_events, turns_after, undue_events, unless_dropped, at_end, dropped_in, drop_records, story}
+use Rattle.life_stack.specs.Handing.{Decision, TooLarge, Panicked, Served, asked_before, asks_of, decided_events, decision, handed_from, panic_at, panic_in, room}
 use Rattle.life_core.specs.declared.latency.LatencyUnit.TheVariants.{Nanos}
 use Rattle.life_script.specs.ToldView.{TurnView}
 use Rattle.life_stack.proofs.Failing.{Marked, ended_none, marked_none, marked_step}
@@ -61,30 +62,45 @@ module _ (limits : Limits) (script : Numbered) where
   dropped_all before [] t0 d c e = rw append-nil e
   dropped_all before (x ∷ acts) t0 d c e = ap dropped_at (sym (append_assoc before (x ∷ []) acts)) ∙ dropped_all (before ++ x ∷ []) acts t0 d (called_kept before x t0 c) (dropped_kept before t0 c x d e)
 
-  item_quiet : (r : ReplyView) (k : ℕ) (o : Option BodyItem) (es : List Event) → events_of (item_answer r k o) es ≡ []
-  item_quiet r k None es = refl
-  item_quiet r k (Some body_item.Pending) es = refl
-  item_quiet r k (Some (body_item.Chunk bytes)) es = refl
-  item_quiet r k (Some (body_item.Trailers trailers)) es = refl
-  item_quiet r k (Some (body_item.Fault fault)) es = refl
+  -- a poll records no early drop
+  handed_quiet : (left : ℕ) (items : List BodyItem) (j n : ℕ) (es : List Event) → dropped_in (handed_from left items j n ++ es) ≡ dropped_in es
+  handed_quiet left items j zero es = refl
+  handed_quiet left items j (suc n) es = handed_quiet left items (suc j) n es
 
-  -- a choice of answers without events has none
-  choice_quiet : (b : Bool) (x y : Answer) (es : List Event) → events_of x es ≡ [] → events_of y es ≡ [] → events_of (if b then x else y) es ≡ []
-  choice_quiet true x y es e f = e
-  choice_quiet false x y es e f = f
+  panic_quiet : (o : Option PollItem) → dropped_in (panic_at o) ≡ []
+  panic_quiet None = refl
+  panic_quiet (Some item) = go item.then
+    where
+      go : (t : Then) → dropped_in (panic_in t) ≡ []
+      go then_.Pending = refl
+      go (then_.Panic text) = refl
+      go (then_.Fail error) = refl
+      go (then_.Respond reply) = refl
 
-  head_quiet : (o : Outcome) (es : List Event) → events_of (head_answer o) es ≡ []
-  head_quiet (Replied r) es = refl
-  head_quiet (Failed error) es = refl
+  decided_quiet : (what : Decision) (left k : ℕ) → dropped_in (decided_events what left script.script k) ≡ []
+  decided_quiet TooLarge left k = refl
+  decided_quiet (Panicked text) left k = refl
+  decided_quiet Served left k =
+      let item = slice_get script.script.polls k in
+      handed_quiet left script.script.body (asked_before script.script.polls k) (asks_of item) (panic_at item) ∙ panic_quiet item
 
-  later_quiet : (o : Outcome) (ph q k : ℕ) (es : List Event) → events_of (later_answer limits o ph q k) es ≡ []
-  later_quiet (Replied r) ph q k es = choice_quiet (due ph limits.body_deadline q) (ans.Fault Elapsed) _ es refl (item_quiet r k (slice_get r.body k) es)
-  later_quiet (Failed error) ph q k es = refl
+  choice_quiet : (b : Bool) (es fs : List Event) → dropped_in es ≡ [] → dropped_in fs ≡ [] → dropped_in (if b then es else fs) ≡ []
+  choice_quiet true es fs e f = e
+  choice_quiet false es fs e f = f
 
-  poll_quiet : (ps : List ℕ) (k : ℕ) (o : Option (ℕ × Outcome)) (es : List Event) → events_of (by_head limits ps k o) es ≡ []
-  poll_quiet ps k None es = refl
-  poll_quiet ps k (Some (h, o)) es =
-      choice_quiet (nat_lt k h) ans.Pending _ es refl (choice_quiet (k == h) (head_answer o) _ es (head_quiet o es) (later_quiet o (slice_index ps h) (slice_index ps k) (k - suc h) es))
+  undue_quiet : (t0 k t : ℕ) → dropped_in (undue_events limits script t0 k t) ≡ []
+  undue_quiet t0 k t = choice_quiet (due t0 limits.timeout t) [] _ refl (decided_quiet (decision limits script.script) (room limits script.script) k)
+
+  poll_quiet : (t0 k t : ℕ) (o : Option (ℕ × Outcome)) → dropped_in (poll_events limits script t0 k t o) ≡ []
+  poll_quiet t0 k t None = undue_quiet t0 k t
+  poll_quiet t0 k t (Some (h, o)) = choice_quiet (nat_le k h) _ [] (undue_quiet t0 k t) refl
+
+  -- after the Drop nothing is recorded
+  idle_quiet : (acts : List Own) (x : Own) (t0 d : ℕ) → called_at acts ≡ Some t0 → dropped_at acts ≡ Some d → dropped_in (events limits script acts x) ≡ []
+  idle_quiet acts (t, act.Call) t0 d c e = refl
+  idle_quiet acts (t, act.Poll) t0 d c e = ap (λ o. dropped_in (on_poll_events limits script o (dropped_at acts) (polls acts ++ t ∷ []) (length (polls acts)) t)) c
+      ∙ ap (λ o. dropped_in (on_poll_events limits script (Some t0) o (polls acts ++ t ∷ []) (length (polls acts)) t)) e
+  idle_quiet acts (t, act.Drop) t0 d c e = ap (λ a. dropped_in (drop_events a (drops limits script (acts ++ (t, act.Drop) ∷ []) t))) (idle_after acts (t, act.Drop) t0 d c e)
 
   -- an early drop is one
   drops_at_in : (o : Option ℕ) (given : List Answer) (d : ℕ) → dropped_in (drops_at o given d) ≡ drops_at o given d
@@ -104,10 +120,10 @@ module _ (limits : Limits) (script : Numbered) where
   Records before acts end = (told_drops limits script before acts) ++ at_end limits script (before ++ acts) end
       ≡ unless_dropped (dropped_at before) (drops limits script (before ++ acts) (drop_time (dropped_at (before ++ acts)) end))
 
-  quiet_step : (x : Own) (before acts : List Own) (end : ℕ) → events_of (answer limits script before x) (drops limits script (before ++ x ∷ []) x.0) ≡ [] →
+  quiet_step : (x : Own) (before acts : List Own) (end : ℕ) → dropped_in (events limits script before x) ≡ [] →
       dropped_at (before ++ x ∷ []) ≡ dropped_at before → Records (before ++ x ∷ []) acts end → Records before (x ∷ acts) end
   quiet_step x before acts end q d ih =
-      ap (λ es. es ++ (told_drops limits script (before ++ x ∷ []) acts) ++ at_end limits script (before ++ x ∷ acts) end) (ap dropped_in q)
+      ap (λ es. es ++ (told_drops limits script (before ++ x ∷ []) acts) ++ at_end limits script (before ++ x ∷ acts) end) q
       ∙ ap (λ l. (told_drops limits script (before ++ x ∷ []) acts) ++ at_end limits script l end) (sym (append_assoc before (x ∷ []) acts))
       ∙ ih
       ∙ ap (λ o. unless_dropped o (drops limits script (before ++ x ∷ [] ++ acts) (drop_time (dropped_at (before ++ x ∷ [] ++ acts)) end))) d
@@ -122,7 +138,7 @@ module _ (limits : Limits) (script : Numbered) where
       ih ∙ ap (λ o. unless_dropped o (drops limits script (next ++ acts) (drop_time (dropped_at (next ++ acts)) end))) now in
       let joined = append_assoc before ((t, act.Drop) ∷ []) acts in
       let last = dropped_all next acts t0 t called now in
-      ap (λ es. es ++ (told_drops limits script next acts) ++ at_end limits script (before ++ (t, act.Drop) ∷ acts) end) (ap (λ a. dropped_in (events_of a (drops limits script next t))) (ap (λ o. on_drop limits script o (dropped_at before) (polls before)) c ∙ ap (λ o. on_drop limits script (Some t0) o (polls before)) d ∙ n) ∙ drops_in next t)
+      ap (λ es. es ++ (told_drops limits script next acts) ++ at_end limits script (before ++ (t, act.Drop) ∷ acts) end) (ap (λ a. dropped_in (drop_events a (drops limits script next t))) (ap (λ o. on_drop limits script o (dropped_at before) (polls before)) c ∙ ap (λ o. on_drop limits script (Some t0) o (polls before)) d ∙ n) ∙ drops_in next t)
       ∙ append_assoc (drops limits script next t) _ _
       ∙ ap (λ l. drops limits script next t ++ ((told_drops limits script next acts) ++ at_end limits script l end)) (sym joined)
       ∙ ap (λ es. drops limits script next t ++ es) rest
@@ -138,7 +154,7 @@ module _ (limits : Limits) (script : Numbered) where
   failed_step t before acts end t0 c d n e ih =
       let next = before ++ (t, act.Drop) ∷ [] in
       let a : answer limits script before (t, act.Drop) ≡ ans.Idle = ap (λ o. on_drop limits script o (dropped_at before) (polls before)) c ∙ ap (λ o. on_drop limits script (Some t0) o (polls before)) d ∙ n in
-      ap (λ x. dropped_in (events_of x (drops limits script next t)) ++ (told_drops limits script next acts) ++ at_end limits script (before ++ (t, act.Drop) ∷ acts) end) a
+      ap (λ x. dropped_in (drop_events x (drops limits script next t)) ++ (told_drops limits script next acts) ++ at_end limits script (before ++ (t, act.Drop) ∷ acts) end) a
       ∙ ap (λ l. (told_drops limits script next acts) ++ at_end limits script l end) (sym (append_assoc before ((t, act.Drop) ∷ []) acts))
       ∙ ih
       ∙ ap (λ o. unless_dropped o (drops limits script (next ++ acts) (drop_time (dropped_at (next ++ acts)) end))) (dropped_now before t0 c t d)
@@ -153,16 +169,16 @@ module _ (limits : Limits) (script : Numbered) where
   any_drop t before acts end t0 (Some (k, Failed error)) m c d h ih = failed_step t before acts end t0 c d (ap drop_answer h) (m t0 k error c h) ih
 
   step : (x : Own) (before acts : List Own) (end : ℕ) (c d : Option ℕ) → Marked limits script before → called_at before ≡ c → dropped_at before ≡ d → Records (before ++ x ∷ []) acts end → Records before (x ∷ acts) end
-  step (t, act.Call) before acts end None d m c e ih = quiet_step (t, act.Call) before acts end (ap (λ o. events_of (on_call o) (drops limits script (before ++ (t, act.Call) ∷ []) t)) c)
+  step (t, act.Call) before acts end None d m c e ih = quiet_step (t, act.Call) before acts end refl
       (ap first_drop (after_now before t c) ∙ sym (called_where_dropped before c)) ih
-  step (t, act.Poll) before acts end None d m c e ih = quiet_step (t, act.Poll) before acts end (rw c)
+  step (t, act.Poll) before acts end None d m c e ih = quiet_step (t, act.Poll) before acts end (ap (λ o. dropped_in (on_poll_events limits script o (dropped_at before) (polls before ++ t ∷ []) (length (polls before)) t)) c)
       (called_where_dropped (before ++ (t, act.Poll) ∷ []) (poll_uncalled before t c) ∙ sym (called_where_dropped before c)) ih
-  step (t, act.Drop) before acts end None d m c e ih = quiet_step (t, act.Drop) before acts end (rw c)
+  step (t, act.Drop) before acts end None d m c e ih = quiet_step (t, act.Drop) before acts end (ap (λ o. dropped_in (drop_events (on_drop limits script o (dropped_at before) (polls before)) (drops limits script (before ++ (t, act.Drop) ∷ []) t))) c)
       (called_where_dropped (before ++ (t, act.Drop) ∷ []) (drop_uncalled before t c) ∙ sym (called_where_dropped before c)) ih
-  step x before acts end (Some t0) (Some d) m c e ih = quiet_step x before acts end (ap (λ a. events_of a (drops limits script (before ++ x ∷ []) x.0)) (idle_after before x t0 d c e)) (dropped_kept before t0 c x d e ∙ sym e) ih
-  step (t, act.Call) before acts end (Some t0) None m c e ih = quiet_step (t, act.Call) before acts end (ap (λ o. events_of (on_call o) (drops limits script (before ++ (t, act.Call) ∷ []) t)) c) (dropped_after_call before t0 c t) ih
+  step x before acts end (Some t0) (Some d) m c e ih = quiet_step x before acts end (idle_quiet before x t0 d c e) (dropped_kept before t0 c x d e ∙ sym e) ih
+  step (t, act.Call) before acts end (Some t0) None m c e ih = quiet_step (t, act.Call) before acts end refl (dropped_after_call before t0 c t) ih
   step (t, act.Poll) before acts end (Some t0) None m c e ih = quiet_step (t, act.Poll) before acts end
-      (rw (c, e) (poll_quiet (polls before ++ t ∷ []) (length (polls before)) (head limits script t0 (polls before ++ t ∷ [])) _)) (dropped_after_poll before t0 c t) ih
+      (rw (c, e) (poll_quiet t0 (length (polls before)) t (head limits script t0 (polls before ++ t ∷ [])))) (dropped_after_poll before t0 c t) ih
   step (t, act.Drop) before acts end (Some t0) None m c e ih = any_drop t before acts end t0 (head limits script t0 (polls before)) m c e refl ih
 
   records : (acts before : List Own) (end : ℕ) → Marked limits script before → Records before acts end

@@ -1,8 +1,7 @@
 -- After a service error a request has ended, so no early drop is recorded of it.
-use Rattle.std.proofs.Common.{inl, inr, ◌≡◌, ℕ, suc, List, [], ◌∷◌, ◌++◌, length, Bool, true, false, Option, Some, None, refl, sym, ap, ◌∙◌, subst, arith, append-nil, append_assoc}
+use Rattle.std.proofs.Common.{inl, inr, ◌≡◌, ℕ, List, [], ◌∷◌, ◌++◌, length, Bool, true, false, Option, Some, None, refl, sym, ap, ◌∙◌, subst, append-nil, append_assoc}
 use Rattle.std.specs.Prelude.{◌||◌}
 use Rattle.life_core.specs.History.{Said, Waits, Gives, Fails}
-use Rattle.life_core.specs.declared.event.Event.{Event}
 use Rattle.life_stack.specs.Ident.{Numbered}
 use Rattle.life_script.specs.Views.{ReplyView}
 use Rattle.life_script.specs.declared.answer.Answer.{Answer}
@@ -13,7 +12,7 @@ use Rattle.life_stack.specs.Driven.{BodyPlan, Head}
 use Rattle.life_stack.specs.Own.{Own, called_at, dropped_at, polls, polls_before_drop}
 use Rattle.life_stack.specs.StandsAt.{IsGone}
 use Rattle.life_stack.specs.Story.{Outcome, Replied, Failed, head, by_head, on_poll, answer, answers, is_ending, any_ending, drops_at, drops, unless_dropped, at_end}
-use Rattle.life_stack.proofs.Acts.{none≢some, called_kept, called_now, after_now, poll_uncalled, drop_uncalled, polls_after_call, polls_after_poll, polls_after_drop, polls_after_dropped, answers_push, any_ending_push}
+use Rattle.life_stack.proofs.Acts.{none≢some, called_kept, after_now, poll_uncalled, drop_uncalled, polls_after_call, polls_after_poll, polls_after_drop, polls_after_dropped, answers_push, any_ending_push}
 use Rattle.life_stack.proofs.Answering.{answer_at_head, head_said, timed_says}
 use Rattle.life_stack.proofs.Heads.{head_kept, head_of, no_head}
 use Rattle.life_stack.proofs.Runs.{some_is}

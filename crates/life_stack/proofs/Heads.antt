@@ -11,9 +11,10 @@ use Rattle.life_script.specs.declared.scenario.Limits.{Limits}
 use Rattle.life_script.specs.declared.scenario.PollItem.{PollItem}
 use Rattle.life_script.specs.declared.scenario.Then.{Then}
 use Rattle.life_script.specs.declared.scenario.Then.TheVariants as then_
-use Rattle.life_stack.specs.Story.{Outcome, Replied, Failed, replied, next, first_due, later, outcome_in, here_or_later, first_outcome, earlier, counted, due_reply, head}
+use Rattle.life_stack.specs.Story.{Outcome, Replied, Failed, replied, next, first_due, later, outcome_in, here_or_later, first_outcome, decided_outcome, ready_outcome, earlier, counted, due_reply, head}
+use Rattle.life_stack.specs.Handing.{Decision, TooLarge, Panicked, Served, decision, panic_reply, too_large_reply}
 use Rattle.life_core.specs.History.{Said, Waits, Gives, Fails, said_with}
-use Rattle.life_stack.specs.Driven.{BodyPlan, Head, named, then_says, item_says}
+use Rattle.life_stack.specs.Driven.{BodyPlan, Head, named, then_says, item_says, decided_says, reply_says, service_says}
 
 -- the head that a poll with this index and this answer makes
 abbrev pub head_of : ℕ → Said Head BodyPlan (List ℕ) → Option (ℕ × Outcome)
@@ -76,8 +77,8 @@ counted_earlier_none n (Some k) (Some (r, reply)) late h e = absurd (go (nat_le 
 
 -- no due poll so far, and no item that answers below this index
 pub head_none : (limits : Limits) (script : Numbered) (t0 : ℕ) (ps : List ℕ) → head limits script t0 ps ≡ None →
-    (first_due t0 limits.timeout ps ≡ None) × (counted (length ps) (first_outcome (ident script) script.script.polls) ≡ None)
-head_none limits script t0 ps e = counted_earlier_none (length ps) (first_due t0 limits.timeout ps) (first_outcome (ident script) script.script.polls) (Replied (due_reply limits)) (first_due_below t0 limits.timeout ps) e
+    (first_due t0 limits.timeout ps ≡ None) × (counted (length ps) (ready_outcome limits script) ≡ None)
+head_none limits script t0 ps e = counted_earlier_none (length ps) (first_due t0 limits.timeout ps) (ready_outcome limits script) (Replied (due_reply limits)) (first_due_below t0 limits.timeout ps) e
 
 counted-later : (m : ℕ) (o : Option (ℕ × Outcome)) → counted (suc m) (later o) ≡ later (counted m o)
 counted-later m None = refl
@@ -113,6 +114,8 @@ outcome_step id (suc n) then_.Pending items ih e =
     counted-later (suc n) (first_outcome id items)
     ∙ ap later (ih n (later_none _ (sym (counted-later n (first_outcome id items)) ∙ e)))
     ∙ head_of-later n (said_with (named id) (item_says (slice_get items n)))
+outcome_step id zero (then_.Panic text) items ih e = counted_below 1 0 (Replied (replied id panic_reply)) (omega arith)
+outcome_step id (suc n) (then_.Panic text) items ih e = absurd (some≢none (sym (counted_below (suc n) 0 (Replied (replied id panic_reply)) (omega arith)) ∙ e))
 outcome_step id zero (then_.Fail error) items ih e = counted_below 1 0 (Failed error) (omega arith)
 outcome_step id (suc n) (then_.Fail error) items ih e = absurd (some≢none (sym (counted_below (suc n) 0 (Failed error) (omega arith)) ∙ e))
 outcome_step id zero (then_.Respond r) items ih e = counted_below 1 0 (Replied (replied id r)) (omega arith)
@@ -123,19 +126,32 @@ first_outcome_at id n [] e = refl
 first_outcome_at id zero (item ∷ items) e = outcome_step id zero item.then items (λ m. first_outcome_at id m items) e
 first_outcome_at id (suc n) (item ∷ items) e = outcome_step id (suc n) item.then items (λ m. first_outcome_at id m items) e
 
+-- an answer in the service's place is given at once
+at_once : (id : FieldValue) (n : ℕ) (r : ReplyView) → counted n (Some (0, Replied (replied id r))) ≡ None → counted (suc n) (Some (0, Replied (replied id r))) ≡ head_of n (said_with (named id) (reply_says r))
+at_once id zero r e = counted_below 1 0 (Replied (replied id r)) (omega arith)
+at_once id (suc n) r e = absurd (some≢none (sym (counted_below (suc n) 0 (Replied (replied id r)) (omega arith)) ∙ e))
+
+decided_at : (what : Decision) (script : Numbered) (n : ℕ) → counted n (decided_outcome what script) ≡ None → counted (suc n) (decided_outcome what script) ≡ head_of n (said_with (named (ident script)) (decided_says what script.script.polls n))
+decided_at TooLarge script n e = at_once (ident script) n too_large_reply e
+decided_at (Panicked text) script n e = at_once (ident script) n panic_reply e
+decided_at Served script n e = first_outcome_at (ident script) n script.script.polls e
+
+ready_at : (limits : Limits) (script : Numbered) (n : ℕ) → counted n (ready_outcome limits script) ≡ None → counted (suc n) (ready_outcome limits script) ≡ head_of n (said_with (named (ident script)) (service_says limits script.script n))
+ready_at limits script n e = decided_at (decision limits script.script) script n e
+
 pub length_push : {A : Type 0} (xs : List A) (x : A) → length (xs ++ x ∷ []) ≡ suc (length xs)
 length_push [] x = refl
 length_push (y ∷ xs) x = ap suc (length_push xs x)
 
 -- the first poll that answers, where none did so far
 pub head_more : (limits : Limits) (script : Numbered) (t0 : ℕ) (ps : List ℕ) (t : ℕ) → head limits script t0 ps ≡ None →
-    head limits script t0 (ps ++ t ∷ []) ≡ (if due t0 limits.timeout t then Some (length ps, Replied (due_reply limits)) else head_of (length ps) (said_with (named (ident script)) (item_says (slice_get script.script.polls (length ps)))))
+    head limits script t0 (ps ++ t ∷ []) ≡ (if due t0 limits.timeout t then Some (length ps, Replied (due_reply limits)) else head_of (length ps) (said_with (named (ident script)) (service_says limits script.script (length ps))))
 unfolding if_none
 head_more limits script t0 ps t e = let was = head_none limits script t0 ps e in
-    rw (length_push ps t, first_due-push t0 limits.timeout ps t, was.0) (go (due t0 limits.timeout t) (first_outcome (ident script) script.script.polls) was.1 (first_outcome_at (ident script) (length ps) script.script.polls was.1))
+    rw (length_push ps t, first_due-push t0 limits.timeout ps t, was.0) (go (due t0 limits.timeout t) (ready_outcome limits script) was.1 (ready_at limits script (length ps) was.1))
   where
-    go : (b : Bool) (a : Option (ℕ × Outcome)) → counted (length ps) a ≡ None → counted (suc (length ps)) a ≡ head_of (length ps) (said_with (named (ident script)) (item_says (slice_get script.script.polls (length ps)))) →
-        counted (suc (length ps)) (earlier (if b then Some (length ps) else None) a (Replied (due_reply limits))) ≡ (if b then Some (length ps, Replied (due_reply limits)) else head_of (length ps) (said_with (named (ident script)) (item_says (slice_get script.script.polls (length ps)))))
+    go : (b : Bool) (a : Option (ℕ × Outcome)) → counted (length ps) a ≡ None → counted (suc (length ps)) a ≡ head_of (length ps) (said_with (named (ident script)) (service_says limits script.script (length ps))) →
+        counted (suc (length ps)) (earlier (if b then Some (length ps) else None) a (Replied (due_reply limits))) ≡ (if b then Some (length ps, Replied (due_reply limits)) else head_of (length ps) (said_with (named (ident script)) (service_says limits script.script (length ps))))
     go false a n f = f
     go true None n f = counted_below (suc (length ps)) (length ps) (Replied (due_reply limits)) (omega arith)
     go true (Some (r, reply)) n f = rw (le-leb (length ps) r (above_of (length ps) r reply n)) (counted_below (suc (length ps)) (length ps) (Replied (due_reply limits)) (omega arith))
@@ -151,7 +167,7 @@ earlier_kept n None (Some (r, reply)) late true x e = rw (lt-leb n r (below_of n
 -- once a poll answered, it stays the first
 pub head_kept : (limits : Limits) (script : Numbered) (t0 : ℕ) (ps : List ℕ) (t : ℕ) (x : ℕ × Outcome) → head limits script t0 ps ≡ Some x → head limits script t0 (ps ++ t ∷ []) ≡ Some x
 head_kept limits script t0 ps t x e = rw (length_push ps t, first_due-push t0 limits.timeout ps t)
-    (earlier_kept (length ps) (first_due t0 limits.timeout ps) (first_outcome (ident script) script.script.polls) (Replied (due_reply limits)) (due t0 limits.timeout t) x e)
+    (earlier_kept (length ps) (first_due t0 limits.timeout ps) (ready_outcome limits script) (Replied (due_reply limits)) (due t0 limits.timeout t) x e)
 
 -- no poll, no head
 none_counted : (o : Option (ℕ × Outcome)) → counted 0 o ≡ None
@@ -159,11 +175,11 @@ none_counted None = refl
 none_counted (Some (k, r)) = counted_above 0 k r (omega arith)
 
 pub no_head : (limits : Limits) (script : Numbered) (t0 : ℕ) → head limits script t0 [] ≡ None
-no_head limits script t0 = none_counted (earlier (first_due t0 limits.timeout []) (first_outcome (ident script) script.script.polls) (Replied (due_reply limits)))
+no_head limits script t0 = none_counted (earlier (first_due t0 limits.timeout []) (ready_outcome limits script) (Replied (due_reply limits)))
 
 -- the head is one of the polls
 pub head_below : (limits : Limits) (script : Numbered) (t0 : ℕ) (ps : List ℕ) (h : ℕ) (o : Outcome) → head limits script t0 ps ≡ Some (h, o) → h < length ps
-head_below limits script t0 ps h o e = go (earlier (first_due t0 limits.timeout ps) (first_outcome (ident script) script.script.polls) (Replied (due_reply limits))) e
+head_below limits script t0 ps h o e = go (earlier (first_due t0 limits.timeout ps) (ready_outcome limits script) (Replied (due_reply limits))) e
   where
     go : (x : Option (ℕ × Outcome)) → counted (length ps) x ≡ Some (h, o) → h < length ps
     go None e' = absurd (some≢none (sym e'))

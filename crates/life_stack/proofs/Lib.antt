@@ -1,9 +1,11 @@
 pub mod Acts
 pub mod Answering
+pub mod Bounds
 pub mod DrivenFollows
 pub mod Drops
 pub mod Endings
 pub mod Failing
+pub mod Handing
 pub mod Heads
 pub mod Naming
 pub mod Pieces

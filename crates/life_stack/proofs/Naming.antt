@@ -1,26 +1,30 @@
 -- What the layers of ids make of a request and of a response's head.
-use Rattle.std.proofs.Common.{◌≡◌, ◌≤◌, ℕ, List, [], ◌∷◌, ◌++◌, length, Option, Some, None, Ok, Result, refl, sym, ap, ◌∙◌, subst, option_map, decimal}
-use Rattle.std.specs.Prelude.{unwrap_or, ⊤}
+use Rattle.std.proofs.Common.{true≢false, ◌≡◌, ◌≤◌, ℕ, length, Option, Some, None, Ok, refl, sym, ap, ◌∙◌, subst, decimal}
+use Rattle.std.specs.Prelude.{bytes_eq, codes, slice_get, unwrap_or, ⊤}
 use Rattle.http_header.specs.FieldValue.{FieldValue, plain_value}
 use Rattle.http_header.specs.HeaderMap.{Entries, get}
 use Rattle.life_core.specs.Header.{is_full_for, put_in}
 use Rattle.life_core.specs.declared.message.Request.{Request}
 use Rattle.life_core.specs.declared.message.ResponseHead.{ResponseHead}
-use Rattle.life_core.specs.declared.recorder.NoMemory.{NoMemory}
-use Rattle.life_head.specs.Ids.{NumberMakes, id_of, id_of_number, marked, marked_by, or_else, tagged, tagged_by, value_of, x_request_id_name}
+use Rattle.life_head.specs.Ids.{NumberMakes, id_of, id_of_number, marked, marked_by, or_else, tagged, tagged_by, x_request_id_name}
 use Rattle.life_head.specs.Setting.{Tags}
 use Rattle.life_head.specs.Stands.{AsksWith, first_of}
 use Rattle.life_head.specs.declared.request_id.id.RequestId.{RequestId}
 use Rattle.life_head.specs.declared.request_id.number.ByNumber.{ByNumber}
-use Rattle.life_head.specs.declared.request_id.number.Number.{Number}
-use Rattle.life_head.proofs.RequestIdFollows.{tagged_is, tagged_value}
-use Rattle.life_script.specs.Headers.{Headers, added_to, first_value, map_of, with_missing}
+use Rattle.life_head.proofs.RequestIdFollows.{tagged_is, tagged_others, tagged_value}
+use Rattle.life_limit.specs.Length.{length_told}
+use Rattle.life_limit.specs.Limit.{is_above, room_of}
+use Rattle.life_limit.specs.Stands.{AsksBounded}
+use Rattle.life_script.specs.Headers.{added_to, first_value, map_of}
+use Rattle.life_script.specs.declared.scenario.Limits.{Limits}
 use Rattle.life_script.specs.Valid.{ScriptFits}
 use Rattle.life_script.specs.declared.checks.TheConstants.{MAX_HEADER_VALUES}
 use Rattle.life_script.proofs.HeaderMaps.{get_map, map_has_room, put_missing}
 use Rattle.life_stack.specs.Driven.{Head, Heads, TellsHead, named}
-use Rattle.life_stack.specs.Ident.{Numbered, ident, identified}
-use Rattle.life_stack.specs.Script.{IsNumbered, IsRequestOf, ext_id, ext_number, with_id}
+use Rattle.life_stack.specs.Handing.{is_too_large, room}
+use Rattle.life_stack.specs.Ident.{Numbered, ident}
+use Rattle.life_stack.specs.Script.{IsNumbered, IsRequestOf, ext_id, ext_number, items_of, with_id}
+use Rattle.life_stack.proofs.ScriptFollows.{AsksFor}
 use Rattle.life_stack.specs.declared.ext.Ext.{Ext}
 use Rattle.life_stack.specs.declared.script_service.ScriptBody.{ScriptBody}
 
@@ -59,19 +63,44 @@ first_is None v = refl
 made_number : (i : ℕ) (maker new : ByNumber) (req : Request ScriptBody Ext) → IsNumbered i req → (made : Option RequestId) → NumberMakes ext_number maker req (Ok made) new → made ≡ Some (id_of (plain_value (decimal i)))
 made_number i maker new req n made k = k.0 ∙ ap id_of_number n
 
--- the request that the inner service is called with
-pub request_named : (script : Numbered) (maker : ByNumber) (req : Request ScriptBody Ext) (maker_new : ByNumber) (new : Request ScriptBody Ext) → ⊤ → IsRequestOf script.script script.number req × ScriptFits script.script →
-    Tags (NumberMakes ext_number) ext_id with_id x_request_id_name maker req (Ok tt) maker_new new → AsksWith x_request_id_name (Some (ident script)) (IsNumbered script.number) new
-request_named script maker req maker_new new keeps q t =
+body_kept : (x : Option FieldValue) (given : Option RequestId) (req : Request ScriptBody Ext) → (tagged_by ext_id with_id x given x_request_id_name req).body ≡ req.body
+body_kept (Some v) given req = refl
+body_kept None None req = refl
+body_kept None (Some id) req = refl
+
+differ : x_request_id_name ≡ codes "content-length" → ⊥
+differ e = true≢false (ap (λ l. bytes_eq x_request_id_name l) e)
+
+-- the length of the body is told as before
+length_kept : (given : Option RequestId) (req : Request ScriptBody Ext) → get (tagged ext_id with_id x_request_id_name given req).head.parts.headers (codes "content-length") ≡ get req.head.parts.headers (codes "content-length")
+length_kept given req = ap (λ values. slice_get values 0) (tagged_others ext_id with_id x_request_id_name given (codes "content-length") req differ)
+
+-- the request that the layers round the service are called with
+pub request_named : (limits : Limits) (script : Numbered) (maker : ByNumber) (req : Request ScriptBody Ext) (maker_new : ByNumber) (new : Request ScriptBody Ext) → ⊤ → IsRequestOf script.script script.number req × ScriptFits script.script →
+    Tags (NumberMakes ext_number) ext_id with_id x_request_id_name maker req (Ok tt) maker_new new →
+    AsksWith x_request_id_name (Some (ident script)) (AsksBounded (is_too_large limits script.script) limits.byte_limit (AsksFor (room limits script.script) script.script script.number)) new
+request_named limits script maker req maker_new new keeps q t =
     let given : Option RequestId = Some (id_of (plain_value (decimal script.number))) in
     let new_is : new ≡ tagged ext_id with_id x_request_id_name given req =
     tagged_is (NumberMakes ext_number) ext_id with_id x_request_id_name maker req maker_new new given (made_number script.number maker maker_new req (q.0).numbered) t in
-    let room : is_full_for req.head.parts.headers x_request_id_name ≡ _ = ap (λ (m : Entries FieldValue). is_full_for m x_request_id_name) (q.0).headers_are ∙ map_has_room x_request_id_name script.script.headers (q.1).headers in
+    let room_for : is_full_for req.head.parts.headers x_request_id_name ≡ _ = ap (λ (m : Entries FieldValue). is_full_for m x_request_id_name) (q.0).headers_are ∙ map_has_room x_request_id_name script.script.headers (q.1).headers in
     let found : get req.head.parts.headers x_request_id_name ≡ first_value x_request_id_name script.script.headers =
-    ap (λ (m : Entries FieldValue). get m x_request_id_name) (q.0).headers_are ∙ get_map x_request_id_name script.script.headers in (
-      ap (λ (r : Request ScriptBody Ext). r.head.ext.number) new_is ∙ number_kept (get req.head.parts.headers x_request_id_name) given req ∙ (q.0).numbered,
+    ap (λ (m : Entries FieldValue). get m x_request_id_name) (q.0).headers_are ∙ get_map x_request_id_name script.script.headers in
+    let told : get new.head.parts.headers (codes "content-length") ≡ first_value (codes "content-length") script.script.headers =
+    ap (λ (r : Request ScriptBody Ext). get r.head.parts.headers (codes "content-length")) new_is ∙ (length_kept given req
+    ∙ (ap (λ (m : Entries FieldValue). get m (codes "content-length")) (q.0).headers_are ∙ get_map (codes "content-length") script.script.headers)) in
+    let body_is : new.body ≡ req.body = ap (λ (r : Request ScriptBody Ext). r.body) new_is ∙ body_kept (get req.head.parts.headers x_request_id_name) given req in
+    let numbered : IsNumbered script.number new = ap (λ (r : Request ScriptBody Ext). r.head.ext.number) new_is ∙ number_kept (get req.head.parts.headers x_request_id_name) given req ∙ (q.0).numbered in (
+      (
+        ap (λ o. is_above limits.byte_limit (length_told o)) told,
+        λ small. record {
+          numbered = numbered;
+          room = ap (λ o. room_of limits.byte_limit (length_told o)) told;
+          items = ap items_of body_is ∙ ((q.0).body).items_are;
+        },
+      ),
       ap (λ (r : Request ScriptBody Ext). get r.head.parts.headers x_request_id_name) new_is
-          ∙ tagged_value ext_id with_id x_request_id_name given req room
+          ∙ tagged_value ext_id with_id x_request_id_name given req room_for
           ∙ ap (λ o. first_of o (Some (plain_value (decimal script.number)))) found
           ∙ first_is (first_value x_request_id_name script.script.headers) (plain_value (decimal script.number)),
     )

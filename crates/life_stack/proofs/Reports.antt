@@ -1,5 +1,5 @@
 -- The report of a valid scenario fits its steps, and has the stories and the early drops of the table.
-use Rattle.std.proofs.Common.{◌≡◌, ℕ, zero, suc, ◌+◌, List, [], ◌∷◌, ◌++◌, length, Bool, true, false, cond, Option, Some, refl, sym, ap, ◌∙◌, arith}
+use Rattle.std.proofs.Common.{◌≡◌, ◌≤◌, ℕ, zero, suc, ◌+◌, List, [], ◌∷◌, ◌++◌, length, Bool, true, false, cond, Option, Some, refl, sym, ap, ◌∙◌, arith}
 use Rattle.std.proofs.lemmas.List.Sums.{sum_by-cons}
 use Rattle.std.specs.Prelude.{slice_get, if◌then◌else◌, ◌==◌}
 use Rattle.life_script.proofs.CheckLemmas.{valid_requests}
@@ -8,12 +8,14 @@ use Rattle.life_script.specs.ToldView.{ToldView}
 use Rattle.life_script.specs.Valid.{IsValid}
 use Rattle.life_script.specs.declared.scenario.Limits.{Limits}
 use Rattle.life_script.specs.declared.scenario.Step.{Step}
+use Rattle.life_stack.proofs.Bounds.{story_bounded}
 use Rattle.life_stack.proofs.Drops.{drops_once}
 use Rattle.life_stack.specs.Drive.{report_of, stories}
+use Rattle.life_stack.specs.Handing.{room}
 use Rattle.life_stack.specs.Ident.{Numbered, numbered}
 use Rattle.life_stack.specs.Own.{Own, own, dropped_at, drop_time}
-use Rattle.life_stack.specs.ReportView.{Fits, steps_of}
-use Rattle.life_stack.specs.Story.{story, turns_after, drops, drop_records}
+use Rattle.life_stack.specs.ReportView.{Fits, ReportView, steps_of}
+use Rattle.life_stack.specs.Story.{body_bytes, story, turns_after, drops, drop_records}
 
 -- each act has a turn
 turns_count : (limits : Limits) (script : Numbered) (before acts : List Own) → length (turns_after limits script before acts) ≡ length acts
@@ -59,6 +61,10 @@ pub story_of : (limits : Limits) (s : ScenarioView) (i : ℕ) (script : ScriptVi
     slice_get (report_of limits s).told i ≡ Some (story limits (numbered i script) (own s.steps i) s.end)
 story_of limits s i script is = let here : 0 + i ≡ i = omega arith in story_at limits s.requests 0 i s.steps s.end script is ∙ ap (λ (n : ℕ). Some (story limits (numbered n script) (own s.steps n) s.end)) here
 
+-- the report of equal limits and scenarios
+pub same_report : (limits other : Limits) (s t : ScenarioView) (r : ReportView) → r ≡ report_of other t → other ≡ limits → t ≡ s → r ≡ report_of limits s
+same_report limits other s t r is l q = is ∙ ap (λ (x : Limits). report_of x t) l ∙ ap (λ (x : ScenarioView). report_of limits x) q
+
 pub report_fits : (limits : Limits) (s : ScenarioView) → IsValid s → Fits (report_of limits s).told s.steps
 report_fits limits s valid = record {
   requests = λ k x is. let within = valid_requests s valid k x is in let count = stories_count limits s.requests 0 s.steps s.end in omega arith;
@@ -73,3 +79,10 @@ pub report_drops : (limits : Limits) (s : ScenarioView) (i : ℕ) (script : Scri
     drop_records t ≡ drops limits (numbered i script) (own s.steps i) (drop_time (dropped_at (own s.steps i)) s.end)
 report_drops limits s i script t here is =
     ap drop_records (told_one t _ _ is (story_of limits s i script here)) ∙ drops_once limits (numbered i script) (own s.steps i) s.end
+
+-- and no service was handed more than it has room for
+pub report_bounded : (limits : Limits) (s : ScenarioView) (i : ℕ) (script : ScriptView) (t : ToldView) → slice_get s.requests i ≡ Some script → slice_get (report_of limits s).told i ≡ Some t → body_bytes t ≤ room limits script
+report_bounded limits s i script t here is =
+    let same = ap body_bytes (told_one t _ _ is (story_of limits s i script here)) in
+    let bound = story_bounded limits (numbered i script) (own s.steps i) s.end in
+    omega (arith, same, bound)

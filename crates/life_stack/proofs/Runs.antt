@@ -12,7 +12,7 @@ use Rattle.life_script.specs.declared.scenario.Step.{Step}
 use Rattle.life_stack.specs.Exchanged.{ExchangeAt, IsFresh, Turned}
 use Rattle.life_stack.specs.LiveAt.{HasRoom, LiveAt, MayGoOn, Shown}
 use Rattle.life_stack.specs.Own.{Own, NotBefore, own}
-use Rattle.life_stack.specs.Story.{answer, at_end, drops, events_of, story, turn, turns_after}
+use Rattle.life_stack.specs.Story.{at_end, events, story, turn, turns_after}
 use Rattle.life_stack.specs.declared.exchange.Exchange.{Exchange}
 use Rattle.life_stack.specs.declared.live.Live.{Live}
 
@@ -67,12 +67,12 @@ turns_after_push limits script before (y ∷ acts) x = ap (λ l. turn limits scr
     (turns_after_push limits script (before ++ y ∷ []) acts x ∙ ap (λ b. turns_after limits script (before ++ y ∷ []) acts ++ turn limits script b x ∷ []) (append_assoc before (y ∷ []) acts))
 
 -- a shown act over an empty log is the table's turn
-pub turned : (limits : Limits) (script : Numbered) (acts : List Own) (x : Own) (was now : Recorded) (l : Live) (a : Answer) (events : List Event) → was.log ≡ [] → events ≡ now.log →
-    Shown limits script acts x was (l, a) now → Turned limits script acts x (l, record { answer = a; events = events })
-turned limits script acts x was now l a events empty is s = record {
+pub turned : (limits : Limits) (script : Numbered) (acts : List Own) (x : Own) (was now : Recorded) (l : Live) (a : Answer) (recorded : List Event) → was.log ≡ [] → recorded ≡ now.log →
+    Shown limits script acts x was (l, a) now → Turned limits script acts x (l, record { answer = a; events = recorded })
+turned limits script acts x was now l a recorded empty is s = record {
   live = s.live;
-  turn_is = ap (λ es. record { answer = a; events = es }) (is ∙ s.log ∙ ap (λ es. es ++ events_of (answer limits script acts x) (drops limits script (acts ++ x ∷ []) x.0)) empty)
-      ∙ ap (λ y. record { answer = y; events = events_of (answer limits script acts x) (drops limits script (acts ++ x ∷ []) x.0) }) s.answer_is;
+  turn_is = ap (λ es. record { answer = a; events = es }) (is ∙ s.log ∙ ap (λ es. es ++ events limits script acts x) empty)
+      ∙ ap (λ y. record { answer = y; events = events limits script acts x }) s.answer_is;
 }
 
 -- the turns with one more are those of the longer list

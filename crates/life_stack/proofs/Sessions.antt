@@ -12,6 +12,7 @@ use Rattle.life_script.proofs.CheckLemmas.{valid_requests, valid_order}
 use Rattle.life_script.specs.ScriptView.{ScriptView, ScenarioView}
 use Rattle.life_script.specs.ToldView.{ToldView}
 use Rattle.life_script.specs.Valid.{IsValid}
+use Rattle.life_script.specs.declared.scenario.CallItem.TheVariants.{Serve}
 use Rattle.life_script.specs.declared.scenario.Limits.{Limits}
 use Rattle.life_script.specs.declared.scenario.Step.{Step}
 use Rattle.life_stack.specs.Drive.{stories}
@@ -67,7 +68,7 @@ left_other (y ∷ xs) (suc k) r x is q = left_other xs k r x is q
 -- What holds of a session.
 
 no_script : ScriptView
-no_script = record { headers = []; polls = [] }
+no_script = record { headers = []; body = []; call = Serve; polls = [] }
 
 -- where an exchange stands
 pub session_at : (v : SessionView) → IsSession v → (i : ℕ) (e : Exchange) → slice_get v.exchanges i ≡ Some e →

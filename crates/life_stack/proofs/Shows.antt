@@ -11,14 +11,15 @@ use Rattle.life_script.specs.declared.answer.Answer.TheVariants as ans
 use Rattle.life_script.specs.declared.scenario.Act.TheVariants as act
 use Rattle.life_script.specs.declared.scenario.Limits.{Limits}
 use Rattle.life_stack.specs.Own.{Own, called_at, polls, dropped_at}
-use Rattle.life_stack.specs.Story.{Failed, head, by_head, drop_answer, on_call, on_poll, on_drop, answer, drops, events_of}
+use Rattle.life_stack.specs.Story.{Failed, head, by_head, drop_answer, drop_events, on_call, on_poll, on_poll_events, on_drop, answer, drops, events, poll_events}
+use Rattle.life_stack.specs.Seeing.{Shows}
 use Rattle.life_stack.specs.Driven.{DriveFuture, DriveBody, drive_ends}
 use Rattle.life_stack.specs.LiveAt.{LiveAt, Shown}
-use Rattle.life_stack.specs.StandsAt.{FreshAt, FutureAt, BodyAt, IsGone, OverAt, BodyPolled, FuturePolled, Shows}
+use Rattle.life_stack.specs.StandsAt.{FreshAt, FutureAt, BodyAt, IsGone, OverAt, BodyPolled, FuturePolled}
 use Rattle.life_stack.specs.declared.live.Live.{Live}
 use Rattle.life_stack.specs.declared.live.Live.TheVariants as live
 use Rattle.life_stack.proofs.Acts.{called_kept, poll_uncalled, drop_uncalled, polls_after_call, polls_after_poll, dropped_after_call, dropped_after_poll, dropped_now, dropped_kept, not_before_push}
-use Rattle.life_stack.proofs.Answering.{answer_above_head}
+use Rattle.life_stack.proofs.Answering.{answer_above_head, none_later}
 use Rattle.life_stack.proofs.Heads.{head_below, head_kept}
 use Rattle.life_stack.proofs.Steps.{any_next, kind_next, or_no}
 
@@ -37,7 +38,7 @@ module _ (limits : Limits) (script : Numbered) (before : List Own) where
       let a : answer limits script before (t, act.Drop) ≡ ans.Dropped = ap (λ o. on_drop limits script o (dropped_at before) (polls before)) c ∙ ap (λ o. on_drop limits script (Some t0) o (polls before)) d ∙ n in record {
         live = record { t0 = t0; called = called_kept before (t, act.Drop) t0 c; gone = inl (t, dropped_now before t0 c t d) };
         answer_is = sym a;
-        log = g.log ∙ ap (λ es. was.log ++ es) (sym (drops_pushed t t t0 c a) ∙ ap (λ x. events_of x (drops limits script (before ++ (t, act.Drop) ∷ []) t)) (sym a));
+        log = g.log ∙ ap (λ es. was.log ++ es) (sym (drops_pushed t t t0 c a) ∙ ap (λ x. drop_events x (drops limits script (before ++ (t, act.Drop) ∷ []) t)) (sym a));
       }
 
   pub future_dropped : (f : DriveFuture) (was now : Recorded) (t : ℕ) → FutureAt limits script before f → Grew was now (drops limits script before t) →
@@ -64,12 +65,12 @@ module _ (limits : Limits) (script : Numbered) (before : List Own) where
   }
 
   -- Nothing is done.
-  idle_shown : (was : Recorded) (x : Own) (l : Live) → answer limits script before x ≡ ans.Idle → LiveAt limits script (before ++ x ∷ []) l → Shown limits script before x was (l, ans.Idle) was
-  idle_shown was x l a at = record {
-    live = at;
-    answer_is = sym a;
-    log = sym (append-nil was.log) ∙ ap (λ y. was.log ++ events_of y (drops limits script (before ++ x ∷ []) x.0)) (sym a);
-  }
+  idle_shown : (was : Recorded) (x : Own) (l : Live) → answer limits script before x ≡ ans.Idle → events limits script before x ≡ [] → LiveAt limits script (before ++ x ∷ []) l → Shown limits script before x was (l, ans.Idle) was
+  idle_shown was x l a none at = record { live = at; answer_is = sym a; log = sym (append-nil was.log) ∙ ap (λ es. was.log ++ es) (sym none) }
+
+  -- an idle Drop records nothing
+  drop_idle : (t : ℕ) → answer limits script before (t, act.Drop) ≡ ans.Idle → events limits script before (t, act.Drop) ≡ []
+  drop_idle t a = ap (λ y. drop_events y (drops limits script (before ++ (t, act.Drop) ∷ []) t)) a
 
   fresh_more : (x : Own) → FreshAt limits script before → answer limits script before x ≡ ans.Idle → called_at (before ++ x ∷ []) ≡ None → FreshAt limits script (before ++ x ∷ [])
   fresh_more x at a c = record {
@@ -81,18 +82,19 @@ module _ (limits : Limits) (script : Numbered) (before : List Own) where
   pub fresh_polled : (was : Recorded) (t : ℕ) → FreshAt limits script before → Shown limits script before (t, act.Poll) was (live.Fresh, ans.Idle) was
   fresh_polled was t at =
       let a = ap (λ c. on_poll limits script c (dropped_at before) (polls before ++ t ∷ []) (length (polls before))) at.uncalled in
-      idle_shown was (t, act.Poll) live.Fresh a (fresh_more (t, act.Poll) at a (poll_uncalled before t at.uncalled))
+      let none = ap (λ c. on_poll_events limits script c (dropped_at before) (polls before ++ t ∷ []) (length (polls before)) t) at.uncalled in
+      idle_shown was (t, act.Poll) live.Fresh a none (fresh_more (t, act.Poll) at a (poll_uncalled before t at.uncalled))
 
   pub fresh_dropped : (was : Recorded) (t : ℕ) → FreshAt limits script before → Shown limits script before (t, act.Drop) was (live.Fresh, ans.Idle) was
   fresh_dropped was t at =
       let a = ap (λ c. on_drop limits script c (dropped_at before) (polls before)) at.uncalled in
-      idle_shown was (t, act.Drop) live.Fresh a (fresh_more (t, act.Drop) at a (drop_uncalled before t at.uncalled))
+      idle_shown was (t, act.Drop) live.Fresh a (drop_idle t a) (fresh_more (t, act.Drop) at a (drop_uncalled before t at.uncalled))
 
   pub future_called : (was : Recorded) (f : DriveFuture) (t : ℕ) → FutureAt limits script before f → Shown limits script before (t, act.Call) was (live.Future f, ans.Idle) was
   future_called was f t at =
       let a : answer limits script before (t, act.Call) ≡ ans.Idle = ap on_call at.called in
       let same = polls_after_call before at.t0 at.called t in
-      idle_shown was (t, act.Call) (live.Future f) a (record {
+      idle_shown was (t, act.Call) (live.Future f) a refl (record {
         t0 = at.t0;
         past = at.past;
         called = called_kept before (t, act.Call) at.t0 at.called;
@@ -109,7 +111,7 @@ module _ (limits : Limits) (script : Numbered) (before : List Own) where
   body_called was b t at =
       let a : answer limits script before (t, act.Call) ≡ ans.Idle = ap on_call at.called in
       let same = polls_after_call before at.t0 at.called t in
-      idle_shown was (t, act.Call) (live.Body b) a (record {
+      idle_shown was (t, act.Call) (live.Body b) a refl (record {
         t0 = at.t0;
         h = at.h;
         ph = at.ph;
@@ -140,6 +142,16 @@ module _ (limits : Limits) (script : Numbered) (before : List Own) where
   gone_answer (t, act.Drop) t0 c (inr g) = ap (λ o. on_drop limits script o (dropped_at before) (polls before)) c ∙ ap (λ o. on_drop limits script (Some t0) o (polls before)) g.2
       ∙ ap drop_answer g.3
 
+  gone_events : (x : Own) (t0 : ℕ) → called_at before ≡ Some t0 → IsGone limits script t0 before → events limits script before x ≡ []
+  gone_events (t, act.Call) t0 c g = refl
+  gone_events (t, act.Poll) t0 c (inl g) = ap (λ o. on_poll_events limits script o (dropped_at before) (polls before ++ t ∷ []) (length (polls before)) t) c
+      ∙ ap (λ o. on_poll_events limits script (Some t0) o (polls before ++ t ∷ []) (length (polls before)) t) g.1
+  gone_events (t, act.Poll) t0 c (inr g) = ap (λ o. on_poll_events limits script o (dropped_at before) (polls before ++ t ∷ []) (length (polls before)) t) c
+      ∙ ap (λ o. on_poll_events limits script (Some t0) o (polls before ++ t ∷ []) (length (polls before)) t) g.2
+      ∙ ap (poll_events limits script t0 (length (polls before)) t) (head_kept limits script t0 (polls before) t (g.0, Failed g.1) g.3)
+      ∙ none_later limits script t0 (length (polls before)) t g.0 (Failed g.1) (head_below limits script t0 (polls before) g.0 (Failed g.1) g.3)
+  gone_events (t, act.Drop) t0 c g = drop_idle t (gone_answer (t, act.Drop) t0 c g)
+
   gone_more : (x : Own) (t0 : ℕ) → called_at before ≡ Some t0 → IsGone limits script t0 before → IsGone limits script t0 (before ++ x ∷ [])
   gone_more x t0 c (inl g) = inl (g.0, dropped_kept before t0 c x g.0 g.1)
   gone_more (t, act.Call) t0 c (inr g) = inr (g.0, g.1, dropped_after_call before t0 c t ∙ g.2, ap (head limits script t0) (polls_after_call before t0 c t) ∙ g.3)
@@ -147,4 +159,4 @@ module _ (limits : Limits) (script : Numbered) (before : List Own) where
   gone_more (t, act.Drop) t0 c (inr g) = inl (t, dropped_now before t0 c t g.2)
 
   pub over_idle : (was : Recorded) (x : Own) → OverAt limits script before → Shown limits script before x was (live.Over, ans.Idle) was
-  over_idle was x at = idle_shown was x live.Over (gone_answer x at.t0 at.called at.gone) (record { t0 = at.t0; called = called_kept before x at.t0 at.called; gone = gone_more x at.t0 at.called at.gone })
+  over_idle was x at = idle_shown was x live.Over (gone_answer x at.t0 at.called at.gone) (gone_events x at.t0 at.called at.gone) (record { t0 = at.t0; called = called_kept before x at.t0 at.called; gone = gone_more x at.t0 at.called at.gone })

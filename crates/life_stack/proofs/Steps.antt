@@ -1,5 +1,5 @@
 -- Each call of the driven stack steps by the table.
-use Rattle.std.proofs.Common.{inl, inr, ◌≡◌, ℕ, suc, ◌-◌, ◌<◌, List, [], ◌∷◌, ◌++◌, length, drop, reverse, Bool, true, false, Option, Some, None, Ok, Err, Result, IfOk, IfErr, refl, sym, ap, ◌∙◌, subst, arith, le-ltb}
+use Rattle.std.proofs.Common.{inr, ◌≡◌, ℕ, suc, ◌-◌, ◌<◌, List, [], ◌∷◌, ◌++◌, length, drop, reverse, Bool, true, false, Option, Some, None, Ok, Err, Result, IfOk, IfErr, refl, sym, ap, ◌∙◌, subst, arith}
 use Rattle.std.specs.Prelude.{slice_index, if◌then◌else◌, ◌||◌}
 use Rattle.std.proofs.Common.{drop_of_length-le}
 use Rattle.std.proofs.lemmas.List.{reverse-append, drop-append-le}
@@ -27,7 +27,8 @@ use Rattle.life_script.specs.declared.answer.Answer.TheVariants as ans
 use Rattle.life_script.specs.declared.scenario.Act.TheVariants as act
 use Rattle.life_script.specs.declared.scenario.Limits.{Limits}
 use Rattle.life_stack.specs.Own.{Own, NotBefore, polls_before_drop, first_drop, polls, dropped_at}
-use Rattle.life_stack.specs.Story.{Outcome, Replied, Failed, shown_headers, head, tells_after, body_answer, by_head, on_call, on_poll, answer, answers, is_ending, any_ending, kind_after, kind_of, drops, events_of}
+use Rattle.life_stack.specs.Story.{Outcome, Replied, Failed, head, tells_after, body_answer, by_head, on_call, on_poll, on_poll_events, answer, answers, is_ending, any_ending, kind_after, kind_of, drops, events, poll_events, undue_events}
+use Rattle.life_stack.specs.Handing.{shown_headers}
 use Rattle.life_stack.specs.Driven.{DriveStack, DriveFuture, DriveBody, drive_calls, drive_polls, drive_leaves, drive_frames, drive_body_leaves, drive_ends, Head, TellsHead, BodyPlan, Plan, body_plan, plan, StackStands, FutureStands, BodyStands, future_history, body_history, timed_body_history}
 use Rattle.life_stack.specs.StandsAt.{FreshAt, FutureAt, FutureAnswered, BodyAt, FutureSaid, FutureLeft, FuturePolled, BodySaid, BodyPolled, Called}
 use Rattle.life_script.specs.Valid.{ScriptFits}
@@ -36,7 +37,7 @@ use Rattle.life_stack.specs.declared.ext.Ext.{Ext}
 use Rattle.life_stack.specs.declared.script_service.ScriptBody.{ScriptBody}
 use Rattle.life_stack.proofs.Heads.{head_of, head_kept, length_push, no_head}
 use Rattle.life_stack.proofs.Acts.{called_kept, called_now, after_now, polls_after_poll, dropped_after_poll, answers_push, any_ending_push, kind_of_push, not_before_push}
-use Rattle.life_stack.proofs.Answering.{timed_says, head_said, answer_at_head, answer_above_head, last_poll, earlier_poll, ending_said, body_table, future_events, frame_events}
+use Rattle.life_stack.proofs.Answering.{timed_says, head_said, answer_at_head, answer_above_head, last_poll, earlier_poll, ending_said, body_table, frame_events, none_later, up_to_now}
 use Rattle.life_stack.proofs.DrivenFollows.{future_follows, body_follows, stack_follows, stack_keeps}
 
 module _ (limits : Limits) (script : Numbered) where
@@ -73,7 +74,7 @@ module _ (limits : Limits) (script : Numbered) where
 
   -- the script that a stack stands for has lists that are short enough
   fits_of : (s : DriveStack) → StackStands limits script s → ScriptFits script.script
-  fits_of s k = ((((k.inner).inner).inner).inner).1
+  fits_of s k = ((((((k.inner).inner).inner).inner).inner).inner).1
 
   pub stack_called : (before : List Own) (was now : Recorded) (m : Moment) (s new : DriveStack) (req : Request ScriptBody Ext) (made : Result DriveFuture NoMemory) → IsRequestOf script.script script.number req →
       FreshAt limits script before → StackStands limits script s → drive_calls s req was m made new now → IfOk made (λ f. Called limits script before m.now was f now)
@@ -86,17 +87,20 @@ module _ (limits : Limits) (script : Numbered) where
   stack_kept was now m s new req (Err e) k c = (stack_keeps limits script).refused s req was m e new now k c
 
   -- A future that waits.
-  said_quiet : (a : Poll (Result (Response DriveBody Ext) (List ℕ))) (x : Answer) (es : List Event) → FutureSaid a x → events_of x es ≡ []
-  said_quiet Pending x es s = ap (λ y. events_of y es) s
-  said_quiet (Ready (Ok r)) x es s = ap (λ y. events_of y es) s
-  said_quiet (Ready (Err e)) x es s = ap (λ y. events_of y es) s
-
   module _ (before : List Own) (f : DriveFuture) (at : FutureAt limits script before f) where
     poll_by_head : (t : ℕ) (o : Option (ℕ × Outcome)) → head limits script at.t0 (polls before ++ t ∷ []) ≡ o → answer limits script before (t, act.Poll) ≡ by_head limits (polls before ++ t ∷ []) (length (polls before)) o
     poll_by_head t o e =
         ap (λ c. on_poll limits script c (dropped_at before) (polls before ++ t ∷ []) (length (polls before))) at.called
         ∙ ap (λ d. on_poll limits script (Some at.t0) d (polls before ++ t ∷ []) (length (polls before))) at.undropped
         ∙ ap (by_head limits (polls before ++ t ∷ []) (length (polls before))) e
+
+    poll_records : (t : ℕ) (said : Said Head BodyPlan (List ℕ)) → head limits script at.t0 (polls before ++ t ∷ []) ≡ head_of (length (polls before)) said →
+        events limits script before (t, act.Poll) ≡ undue_events limits script at.t0 (length (polls before)) t
+    poll_records t said e =
+        ap (λ c. on_poll_events limits script c (dropped_at before) (polls before ++ t ∷ []) (length (polls before)) t) at.called
+        ∙ ap (λ d. on_poll_events limits script (Some at.t0) d (polls before ++ t ∷ []) (length (polls before)) t) at.undropped
+        ∙ ap (poll_events limits script at.t0 (length (polls before)) t) e
+        ∙ up_to_now limits script at.t0 (length (polls before)) t said
 
     polled_more : (t : ℕ) → polls (before ++ (t, act.Poll) ∷ []) ≡ polls before ++ t ∷ []
     polled_more t = polls_after_poll before at.t0 at.called t at.undropped
@@ -183,7 +187,7 @@ module _ (limits : Limits) (script : Numbered) where
         i.answer i.stands in record {
           said = both.0;
           left = both.1;
-          grew = subst (λ l. Grew was now l) (future_events limits script at.t0 at.past t ∙ sym (said_quiet a _ _ both.0)) i.grew;
+          grew = subst (λ l. Grew was now l) (ap (λ k. undue_events limits script at.t0 k t) at.polled ∙ sym (poll_records t (timed_says limits script at.t0 (length (polls before)) t) (head_said limits script at.t0 (polls before) t at.unanswered))) i.grew;
         }
 
     -- the early drop of this time
@@ -251,7 +255,11 @@ module _ (limits : Limits) (script : Numbered) where
                 ∙ ap (λ y. ended hist at.past || y) (ending_said x (drive_ends new) _ said ∙ ap (λ y. is_ending_frame y (drive_ends new)) i.answer ∙ ap (is_ending_frame (hist.frame at.past t)) tells);
             stands = i.stands;
           };
-          grew = subst (λ l. Grew was now l) (frame_events limits at.ph (body_plan at.reply) at.past t ∙ sym (frame_quiet x (drive_ends new) _ _ said)) i.grew;
+          grew = subst (λ l. Grew was now l) (frame_events limits at.ph (body_plan at.reply) at.past t ∙ sym (
+              ap (λ c. on_poll_events limits script c (dropped_at before) (ps ++ t ∷ []) k t) at.called
+              ∙ ap (λ d. on_poll_events limits script (Some at.t0) d (ps ++ t ∷ []) k t) at.undropped
+              ∙ ap (poll_events limits script at.t0 k t) kept
+              ∙ none_later limits script at.t0 k t at.h (Replied at.reply) below)) i.grew;
         }
       where
         kind_said : (x : Poll (Option (Result (Frame (List ℕ)) (BodyError (List ℕ))))) (e : Bool) (a : Answer) (what : DropKind) → BodySaid x e a → kind_after what a ≡ what
@@ -259,12 +267,6 @@ module _ (limits : Limits) (script : Numbered) where
         kind_said (Ready None) e a what s = ap (kind_after what) s
         kind_said (Ready (Some (Ok f))) e a what s = ap (kind_after what) s.2
         kind_said (Ready (Some (Err x))) e a what s = ap (kind_after what) s
-
-        frame_quiet : (x : Poll (Option (Result (Frame (List ℕ)) (BodyError (List ℕ))))) (e : Bool) (a : Answer) (es : List Event) → BodySaid x e a → events_of a es ≡ []
-        frame_quiet Pending e a es s = ap (λ y. events_of y es) s
-        frame_quiet (Ready None) e a es s = ap (λ y. events_of y es) s
-        frame_quiet (Ready (Some (Ok f))) e a es s = ap (λ y. events_of y es) s.2
-        frame_quiet (Ready (Some (Err x))) e a es s = ap (λ y. events_of y es) s
 
     pub body_polled : (was now : Recorded) (m : Moment) (made : BodyAnswer (List ℕ) (BodyError (List ℕ))) (new : DriveBody) → NotBefore m.now before → drive_frames b was m made new now →
         IfOk made (λ a. BodyPolled limits script before m.now was a new now)

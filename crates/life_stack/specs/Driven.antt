@@ -37,6 +37,24 @@ use Rattle.life_head.specs.declared.request_id.number.ByNumber.{ByNumber}
 use Rattle.life_head.specs.declared.request_id.propagate.PropagateRequestId.{PropagateRequestId}
 use Rattle.life_head.specs.declared.request_id.propagating.PropagateRequestIdResponseFuture.{PropagateRequestIdResponseFuture}
 use Rattle.life_head.specs.declared.request_id.set.SetRequestId.{SetRequestId}
+use Rattle.life_core.specs.Boxed.{BoxFrames, BoxLeaves, BoxMay, IsEmptyBox, box_ends}
+use Rattle.life_core.specs.Full.{FullFrames, LeavesNothing, full_ends}
+use Rattle.life_core.specs.Limited.{LimitedLeaves, room_in}
+use Rattle.life_core.specs.OneChunk.{BoxStands, FullStands}
+use Rattle.life_core.specs.declared.body.boxed.UnsyncBoxBody.{UnsyncBoxBody}
+use Rattle.life_core.specs.declared.body.full.Full.{Full}
+use Rattle.life_core.specs.declared.event.Event.{Event}
+use Rattle.life_limit.specs.Catch.{CatchCalls, CatchFutureLive, CatchFutureMay, CatchLeaves, CatchMay, CatchPolls, DefaultHandles}
+use Rattle.life_limit.specs.Limit.{LimitCalls, LimitFutureMay, LimitLeaves, LimitMay, LimitPolls}
+use Rattle.life_limit.specs.LimitBody.{IsDefaultBody, LimitBodyFrames, LimitBodyLeaves, LimitBodyMay, limit_body_ends}
+use Rattle.life_limit.specs.Stands.{CatchServes, CatchStands, LimitBodyStands, LimitServes, LimitStands}
+use Rattle.life_limit.specs.declared.catch_panic.future.ResponseFuture.{ResponseFuture as CatchFuture}
+use Rattle.life_limit.specs.declared.catch_panic.handler.DefaultResponseForPanic.{DefaultResponseForPanic}
+use Rattle.life_limit.specs.declared.catch_panic.service.CatchPanic.{CatchPanic}
+use Rattle.life_limit.specs.declared.limit.body.ResponseBody.{ResponseBody}
+use Rattle.life_limit.specs.declared.limit.future.ResponseFuture.{ResponseFuture as LimitFuture}
+use Rattle.life_limit.specs.declared.limit.service.RequestBodyLimit.{RequestBodyLimit}
+use Rattle.std.specs.declared.convert.Infallible.{Infallible}
 use Rattle.life_script.specs.Headers.{Headers, map_of}
 use Rattle.life_script.specs.Valid.{ScriptFits}
 use Rattle.life_script.specs.declared.checks.TheConstants.{MAX_HEADER_VALUES}
@@ -48,56 +66,92 @@ use Rattle.life_script.specs.declared.scenario.Limits.{Limits}
 use Rattle.life_script.specs.declared.scenario.PollItem.{PollItem}
 use Rattle.life_script.specs.declared.scenario.Then.{Then}
 use Rattle.life_script.specs.declared.scenario.Then.TheVariants as then_
-use Rattle.life_stack.specs.Script.{IsDefaultBody, IsDefaultExt, IsReplyHead, Finds, ext_id, ext_number, with_id, ScriptCalls, ScriptFrames, ScriptLeaves, ScriptPolls, item_frame, items_of, polls_of, tells_end}
+use Rattle.life_core.specs.declared.fault.Fault.{Fault}
+use Rattle.life_core.specs.declared.fault.Fault.TheVariants as fault
+use Rattle.life_script.specs.declared.scenario.CallItem.{CallItem}
+use Rattle.life_script.specs.declared.scenario.CallItem.TheVariants as call_item
+use Rattle.life_stack.specs.Handing.{Decision, TooLarge, Panicked, Served, asked_before, asks_of, decision, handed_from, is_too_large, panic_reply, room, room_before, service_events, too_large_reply}
+use Rattle.life_stack.specs.Script.{IsDefaultExt, Finds, asked_of, ext_id, ext_number, with_id, ScriptCalls, ScriptFrames, ScriptLeaves, ScriptPolls, item_frame, items_of, panic_of, polls_of, tells_end}
 use Rattle.life_stack.specs.Story.{due_reply}
 use Rattle.life_stack.specs.declared.ext.Ext.{Ext}
 use Rattle.life_stack.specs.declared.script_service.ScriptBody.{ScriptBody}
 use Rattle.life_stack.specs.declared.script_service.ScriptFuture.{ScriptFuture}
 use Rattle.life_stack.specs.declared.script_service.ScriptService.{ScriptService}
 
--- THE TYPES, from the outside in.
+-- THE TYPES.
+
+-- the layers that may answer in the service's place, round it
+abbrev pub Inner : Type 0
+Inner = RequestBodyLimit (CatchPanic ScriptService DefaultResponseForPanic)
+
+abbrev pub InnerFuture : Type 0
+InnerFuture = LimitFuture (CatchFuture ScriptFuture DefaultResponseForPanic)
+
+abbrev pub InnerBody : Type 0
+InnerBody = ResponseBody (UnsyncBoxBody ScriptBody Full)
 
 abbrev pub DriveStack : Type 0
-DriveStack = SetRequestId (OnEarlyDropService (ResponseBodyDeadline (Timeout (PropagateRequestId ScriptService))) NoteDrop NoteDrop) ByNumber
+DriveStack = SetRequestId (OnEarlyDropService (ResponseBodyDeadline (Timeout (PropagateRequestId Inner))) NoteDrop NoteDrop) ByNumber
 
 abbrev pub DriveFuture : Type 0
-DriveFuture = OnEarlyDropFuture (ResponseBodyDeadlineFuture (ResponseFuture (PropagateRequestIdResponseFuture ScriptFuture))) NoteDropped NoteDrop ℕ ScriptBody
+DriveFuture = OnEarlyDropFuture (ResponseBodyDeadlineFuture (ResponseFuture (PropagateRequestIdResponseFuture InnerFuture))) NoteDropped NoteDrop ℕ ScriptBody
 
 abbrev pub DriveBody : Type 0
-DriveBody = OnEarlyDropBody (DeadlineBody ScriptBody) NoteDropped
+DriveBody = OnEarlyDropBody (DeadlineBody InnerBody) NoteDropped
 
 -- THE CALLS: each layer's meaning over that of the one below.
 
+abbrev pub inner_calls : Inner → Request ScriptBody Ext → Recorded → Moment → Result InnerFuture NoMemory → Inner → Recorded → Type 0
+inner_calls = LimitCalls (CatchCalls ScriptCalls (LimitedLeaves ScriptLeaves)) ScriptLeaves
+
+abbrev pub inner_polls : InnerFuture → Recorded → Moment → Reply InnerBody Ext (List ℕ) → InnerFuture → Recorded → Type 0
+inner_polls = LimitPolls (CatchPolls ScriptPolls (DefaultHandles IsDefaultExt)) IsDefaultExt
+
+abbrev pub inner_leaves : InnerFuture → Recorded → Moment → Result Unit NoMemory → Recorded → Type 0
+inner_leaves = LimitLeaves (CatchLeaves ScriptLeaves)
+
+abbrev pub inner_frames : InnerBody → Recorded → Moment → Answer (List ℕ) (List ℕ) → InnerBody → Recorded → Type 0
+inner_frames = LimitBodyFrames (BoxFrames ScriptFrames (FullFrames {E = Infallible}))
+
+abbrev pub inner_body_leaves : InnerBody → Recorded → Moment → Result Unit NoMemory → Recorded → Type 0
+inner_body_leaves = LimitBodyLeaves (BoxLeaves ScriptLeaves LeavesNothing)
+
+abbrev pub inner_ends : InnerBody → Bool
+inner_ends = limit_body_ends (box_ends tells_end full_ends)
+
+abbrev pub IsDefaultInner : InnerBody → Type 0
+IsDefaultInner = IsDefaultBody IsEmptyBox
+
 abbrev pub StackMay : DriveStack → Type 0
-StackMay = SetMay (EarlyMay (DeadlineMay (TimeoutMay (PropagateMay (λ _. ⊤)))) (λ _. ⊤) (λ _. ⊤)) (λ _. ⊤)
+StackMay = SetMay (EarlyMay (DeadlineMay (TimeoutMay (PropagateMay (LimitMay (CatchMay (λ _. ⊤) (λ _. ⊤)))))) (λ _. ⊤) (λ _. ⊤)) (λ _. ⊤)
 
 abbrev pub FutureLive : DriveFuture → Type 0
-FutureLive = EarlyFutureLive (DeadlineFutureMay (TimeoutFutureLive (PropagateFutureMay (λ _. ⊤)))) (λ _. ⊤)
+FutureLive = EarlyFutureLive (DeadlineFutureMay (TimeoutFutureLive (PropagateFutureMay (LimitFutureMay (CatchFutureLive (λ _. ⊤) (λ _. ⊤)))))) (λ _. ⊤)
 
 abbrev pub FutureMay : DriveFuture → Type 0
-FutureMay = EarlyFutureMay (DeadlineFutureMay (TimeoutFutureMay (PropagateFutureMay (λ _. ⊤)))) (λ _. ⊤) (λ _. ⊤)
+FutureMay = EarlyFutureMay (DeadlineFutureMay (TimeoutFutureMay (PropagateFutureMay (LimitFutureMay (CatchFutureMay (λ _. ⊤)))))) (λ _. ⊤) (λ _. ⊤)
 
 abbrev pub BodyMay : DriveBody → Type 0
-BodyMay = EarlyBodyMay (DeadlineBodyMay (λ _. ⊤)) (λ _. ⊤)
+BodyMay = EarlyBodyMay (DeadlineBodyMay (LimitBodyMay (BoxMay (λ _. ⊤) (λ _. ⊤)))) (λ _. ⊤)
 
 abbrev pub drive_calls : DriveStack → Request ScriptBody Ext → Recorded → Moment → Result DriveFuture NoMemory → DriveStack → Recorded → Type 0
-drive_calls = SetCalls (EarlyCalls (DeadlineCalls (TimeoutCalls (PropagateCalls ScriptCalls ScriptLeaves))) NotesFuture NotesStart ScriptLeaves) (NumberMakes ext_number) ext_id with_id ScriptLeaves
+drive_calls = SetCalls (EarlyCalls (DeadlineCalls (TimeoutCalls (PropagateCalls inner_calls ScriptLeaves))) NotesFuture NotesStart ScriptLeaves) (NumberMakes ext_number) ext_id with_id ScriptLeaves
 
 abbrev pub drive_polls : DriveFuture → Recorded → Moment → Reply DriveBody Ext (List ℕ) → DriveFuture → Recorded → Type 0
-drive_polls = EarlyPolls (DeadlinePolls (TimeoutPolls (PropagatePolls ScriptPolls ScriptLeaves ext_id with_id) (PropagateLeaves ScriptLeaves) IsDefaultBody IsDefaultExt)) NotesBody (deadline_ends tells_end) (DeadlineBodyLeaves ScriptLeaves)
+drive_polls = EarlyPolls (DeadlinePolls (TimeoutPolls (PropagatePolls inner_polls inner_body_leaves ext_id with_id) (PropagateLeaves inner_leaves) IsDefaultInner IsDefaultExt)) NotesBody (deadline_ends inner_ends) (DeadlineBodyLeaves inner_body_leaves)
 
 abbrev pub drive_leaves : DriveFuture → Recorded → Moment → Result Unit NoMemory → Recorded → Type 0
-drive_leaves = EarlyLeaves (DeadlineLeaves (TimeoutLeaves (PropagateLeaves ScriptLeaves))) NotesDrop
+drive_leaves = EarlyLeaves (DeadlineLeaves (TimeoutLeaves (PropagateLeaves inner_leaves))) NotesDrop
 
 abbrev pub drive_frames : DriveBody → Recorded → Moment → Answer (List ℕ) (BodyError (List ℕ)) → DriveBody → Recorded → Type 0
-drive_frames = EarlyFrames (DeadlineFrames ScriptFrames) (deadline_ends tells_end)
+drive_frames = EarlyFrames (DeadlineFrames inner_frames) (deadline_ends inner_ends)
 
 abbrev pub drive_body_leaves : DriveBody → Recorded → Moment → Result Unit NoMemory → Recorded → Type 0
-drive_body_leaves = EarlyBodyLeaves (DeadlineBodyLeaves ScriptLeaves) NotesDrop
+drive_body_leaves = EarlyBodyLeaves (DeadlineBodyLeaves inner_body_leaves) NotesDrop
 
 -- whether the body tells its end
 abbrev pub drive_ends : DriveBody → Bool
-drive_ends = early_ends (deadline_ends tells_end)
+drive_ends = early_ends (deadline_ends inner_ends)
 
 -- what is said of a response's head: its status and its headers
 abbrev pub Head : Type 0
@@ -111,25 +165,50 @@ pub record BodyPlan : Type 0 where
 abbrev pub body_plan : ReplyView → BodyPlan
 body_plan reply = record { items = reply.body; tells = reply.tells }
 
+-- what is said of a response by its reply
+abbrev pub reply_says : {X : Type 0} → ReplyView → Said Head BodyPlan X
+reply_says reply = Gives (reply.status, reply.headers) (body_plan reply)
+
 -- THE SCRIPTED SERVICE: what is not used up.
 
-abbrev pub ScriptStands : ScriptView → ScriptFuture → Where → Type 0
-ScriptStands script f (Waiting past) = (polls_of f ≡ drop (length past) script.polls) × ScriptFits script
-ScriptStands script f Answered = ⊤
+-- after k polls the future has the items after them, and its request's body those that were not asked for, with the room that is left
+pub record ServesOn (left : ℕ) (script : ScriptView) (f : ScriptFuture) (k : ℕ) : Type 0 where
+  pub polls : polls_of f ≡ drop k script.polls
+  pub room : room_in f.body ≡ room_before left script.body (asked_before script.polls k)
+  pub items : asked_of f.body ≡ drop (asked_before script.polls k) script.body
 
-abbrev pub then_says : Then → Said Head BodyPlan (List ℕ)
-then_says then_.Pending = Waits
-then_says (then_.Fail error) = Fails error
-then_says (then_.Respond reply) = Gives (reply.status, reply.headers) (body_plan reply)
+-- left is the room at the start
+abbrev pub StandsBy : CallItem → ℕ → ScriptView → ScriptFuture → Where → Type 0
+StandsBy call left script f (Waiting past) = (f.panic ≡ panic_of call) × ServesOn left script f (length past) × ScriptFits script
+StandsBy call left script f Answered = ⊤
 
-abbrev pub item_says : Option PollItem → Said Head BodyPlan (List ℕ)
-item_says None = Waits
-item_says (Some item) = then_says item.then
+abbrev pub ScriptStands : ℕ → ScriptView → ScriptFuture → Where → Type 0
+ScriptStands left script = StandsBy script.call left script
 
-abbrev pub script_history : ScriptView → FutureHistory Head BodyPlan (List ℕ)
-script_history script = record {
-  says = λ past t. item_says (slice_get script.polls (length past));
-  events = λ past t. [];
+-- what the scripted service says at an item, or at none
+abbrev pub then_tells : Then → Said Head BodyPlan (Fault (List ℕ))
+then_tells then_.Pending = Waits
+then_tells (then_.Panic text) = Fails (fault.Panicked text)
+then_tells (then_.Fail error) = Fails (fault.Err error)
+then_tells (then_.Respond reply) = reply_says reply
+
+abbrev pub item_tells : Option PollItem → Said Head BodyPlan (Fault (List ℕ))
+item_tells None = Waits
+item_tells (Some item) = then_tells item.then
+
+-- a panic of the call is told first
+abbrev pub call_tells : CallItem → Option PollItem → Said Head BodyPlan (Fault (List ℕ))
+call_tells call_item.Serve o = item_tells o
+call_tells (call_item.Panic text) o = Fails (fault.Panicked text)
+
+abbrev pub call_hands : CallItem → ℕ → ScriptView → ℕ → List Event
+call_hands call_item.Serve left script k = handed_from left script.body (asked_before script.polls k) (asks_of (slice_get script.polls k))
+call_hands (call_item.Panic text) left script k = []
+
+abbrev pub script_history : ℕ → ScriptView → FutureHistory Head BodyPlan (Fault (List ℕ))
+script_history left script = record {
+  says = λ past t. call_tells script.call (slice_get script.polls (length past));
+  events = λ past t. call_hands script.call left script (length past);
   left = λ past t. [];
 }
 
@@ -145,16 +224,54 @@ script_body_history p = record {
   left = λ past q. [];
 }
 
--- THE STACK: one part for each layer.
+-- THE LAYERS ROUND IT that may answer in its place: each poll is answered and recorded by the decision.
 
--- a scripted head; a valid scenario's lists are short enough for a map
-abbrev pub Heads : Head → ResponseHead Ext → Type 0
-Heads h head = IsReplyHead h.0 h.1 head × (length h.1 ≤ MAX_HEADER_VALUES)
+abbrev pub then_says : Then → Said Head BodyPlan (List ℕ)
+then_says then_.Pending = Waits
+then_says (then_.Panic text) = reply_says panic_reply
+then_says (then_.Fail error) = Fails error
+then_says (then_.Respond reply) = reply_says reply
+
+abbrev pub item_says : Option PollItem → Said Head BodyPlan (List ℕ)
+item_says None = Waits
+item_says (Some item) = then_says item.then
+
+abbrev pub decided_says : Decision → List PollItem → ℕ → Said Head BodyPlan (List ℕ)
+decided_says TooLarge polls k = reply_says too_large_reply
+decided_says (Panicked text) polls k = reply_says panic_reply
+decided_says Served polls k = item_says (slice_get polls k)
+
+abbrev pub service_says : Limits → ScriptView → ℕ → Said Head BodyPlan (List ℕ)
+service_says limits script k = decided_says (decision limits script) script.polls k
+
+abbrev pub service_history : Limits → ScriptView → FutureHistory Head BodyPlan (List ℕ)
+service_history limits script = record {
+  says = λ past t. service_says limits script (length past);
+  events = λ past t. service_events limits script (length past);
+  left = λ past t. [];
+}
+
+-- a service that finds this script for its number, under the limit, with no panic kept
+abbrev pub InnerServes : Limits → Numbered → Inner → Type 0
+InnerServes limits script = LimitServes limits.byte_limit (CatchServes (λ _. ⊤) (Finds script.script script.number))
+
+abbrev pub InnerStands : Limits → ScriptView → InnerFuture → Where → Type 0
+InnerStands limits script = LimitStands (is_too_large limits script) (CatchStands (λ _. ⊤) (ScriptStands (room limits script) script))
+
+-- a scripted body, a plain text or none
+abbrev pub InnerBodyStands : BodyPlan → InnerBody → List ℕ → Type 0
+InnerBodyStands = LimitBodyStands script_body_history (BoxStands script_body_history ScriptBodyStands (FullStands script_body_history))
+
+-- THE STACK: one part for each layer.
 
 -- a head with this status and these headers
 pub record TellsHead (h : Head) (head : ResponseHead Ext) : Type 0 where
   pub status_is : head.parts.status ≡ h.0
   pub headers_are : head.parts.headers ≡ map_of h.1
+
+-- the same, where the list is short enough for a map, as those of a valid scenario are
+abbrev pub Heads : Head → ResponseHead Ext → Type 0
+Heads h head = TellsHead h head × (length h.1 ≤ MAX_HEADER_VALUES)
 
 -- what is said of a head once it has the id
 abbrev pub named : FieldValue → Head → Head
@@ -164,13 +281,13 @@ named id h = (h.0, identified id h.1)
 abbrev pub StackStands : Limits → Numbered → DriveStack → Type 0
 StackStands limits script =
     SetServes x_request_id_name (λ _. ⊤) (DropServes (DeadlineServes limits.body_deadline
-    (TimeoutServes limits.timeout limits.timeout_status (PropagateServes x_request_id_name (Finds script.script script.number)))))
+    (TimeoutServes limits.timeout limits.timeout_status (PropagateServes x_request_id_name (InnerServes limits script)))))
 
 -- a future of a request that was called at t0
 abbrev pub FutureStands : Limits → Numbered → ℕ → DriveFuture → Where → Type 0
 FutureStands limits script t0 =
     DropStands (noting drop_kind.Future t0) t0 (DeadlineStands limits.body_deadline (TimeoutStands (record { start = t0; length = limits.timeout }) limits.timeout_status
-    (PropagateStands x_request_id_name (Some (ident script)) (ScriptStands script.script))))
+    (PropagateStands x_request_id_name (Some (ident script)) (InnerStands limits script.script))))
 
 -- the plan of a driven body: its response's head and time, and its items
 abbrev pub Plan : Type 0
@@ -180,7 +297,7 @@ abbrev pub future_history : Limits → Numbered → ℕ → FutureHistory Head P
 future_history limits script t0 =
     drop_history (λ t. drop_record drop_kind.Future (t - t0) ∷ [])
     (deadline_history (timeout_history (record { start = t0; length = limits.timeout }) (limits.timeout_status, []) (body_plan (due_reply limits))
-    (propagate_history (named (ident script)) (script_history script.script))))
+    (propagate_history (named (ident script)) (service_history limits script.script))))
 
 -- a body whose response was given at the time, with its plan
 abbrev pub timed_body_history : Limits → ℕ × BodyPlan → BodyHistory (List ℕ) (BodyError (List ℕ))
@@ -190,7 +307,7 @@ abbrev pub plan : ReplyView → ℕ → Plan
 plan reply ph = ((reply.status, reply.headers), (ph, body_plan reply))
 
 abbrev pub BodyStands : Limits → ℕ → Plan → DriveBody → List ℕ → Type 0
-BodyStands limits t0 = DropBodyStands (λ (h : Head). noting (drop_kind.Body h.0) t0) (timed_body_history limits) (DeadlineBodyStands limits.body_deadline ScriptBodyStands)
+BodyStands limits t0 = DropBodyStands (λ (h : Head). noting (drop_kind.Body h.0) t0) (timed_body_history limits) (DeadlineBodyStands limits.body_deadline InnerBodyStands)
 
 abbrev pub body_history : Limits → ℕ → Plan → BodyHistory (List ℕ) (BodyError (List ℕ))
 body_history limits t0 = drop_body_history (λ (h : Head) q. drop_record (drop_kind.Body h.0) (q - t0) ∷ []) (timed_body_history limits)

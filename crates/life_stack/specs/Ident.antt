@@ -1,5 +1,5 @@
 -- The id of a request, and the headers of a response that has it.
-use Rattle.std.specs.Prelude.{ℕ, List, Option, unwrap_or, decimal}
+use Rattle.std.specs.Prelude.{ℕ, unwrap_or, decimal}
 use Rattle.http_header.specs.FieldValue.{FieldValue, plain_value}
 use Rattle.life_head.specs.Ids.{x_request_id_name}
 use Rattle.life_script.specs.Headers.{Headers, first_value, with_missing}

@@ -6,12 +6,14 @@ pub mod Lines
 pub mod LiveAt
 pub mod Own
 pub mod Exchanged
+pub mod Handing
 pub mod Ident
 pub mod Report
 pub mod ReportView
 pub mod Rows
 pub mod Run
 pub mod Script
+pub mod Seeing
 pub mod SessionView
 pub mod StandsAt
 pub mod Status

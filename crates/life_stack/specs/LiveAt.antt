@@ -7,7 +7,7 @@ use Rattle.life_script.specs.declared.scenario.Limits.{Limits}
 use Rattle.life_stack.specs.Driven.{BodyMay, FutureLive, FutureMay}
 use Rattle.life_stack.specs.Own.{Own}
 use Rattle.life_stack.specs.StandsAt.{BodyAt, FreshAt, FutureAt, OverAt}
-use Rattle.life_stack.specs.Story.{answer, drops, events_of}
+use Rattle.life_stack.specs.Story.{answer, events}
 use Rattle.life_stack.specs.declared.live.Live.{Live}
 use Rattle.life_stack.specs.declared.live.Live.TheVariants as live
 
@@ -42,4 +42,4 @@ IsIdle live.Over = ⊤
 pub record Shown (limits : Limits) (script : Numbered) (acts : List Own) (x : Own) (was : Recorded) (p : Live × Answer) (now : Recorded) : Type 0 where
   pub live : LiveAt limits script (acts ++ x ∷ []) p.0
   pub answer_is : p.1 ≡ answer limits script acts x
-  pub log : now.log ≡ was.log ++ events_of (answer limits script acts x) (drops limits script (acts ++ x ∷ []) x.0)
+  pub log : now.log ≡ was.log ++ events limits script acts x

@@ -1,14 +1,20 @@
--- What the scripted service, its future and its body do: the items of their lists in order.
-use Rattle.std.specs.Prelude.{◌≡◌, ℕ, codes, Bool, true, ◌&&◌, nat_le, List, [], length, drop, slice_get, Option, Some, None, Result, Ok, Err, IfOk}
-use Rattle.std.specs.Option.{option_map_or}
+-- What the scripted service, its future and its bodies do: the items of their lists in order.
+use Rattle.std.specs.Prelude.{◌≡◌, ℕ, codes, Bool, true, false, ◌&&◌, nat_le, List, [], ◌++◌, length, drop, slice_get, Option, Some, None, Result, Ok, Err, IfOk}
 use Rattle.http.specs.declared.version.TheConstants.Version.{HTTP_11}
 use Rattle.http.specs.Request.{IsHeadFor}
 use Rattle.http_uri.specs.Uri.{HasParts}
 use Rattle.http_body.specs.Frame.{data_frame, trailers_frame}
 use Rattle.http_body.specs.declared.frame.Frame.{Frame}
+use Rattle.life_core.specs.History.{Grew}
+use Rattle.life_core.specs.Limited.{body_in, room_in}
 use Rattle.life_core.specs.Meaning.{Answer, Reply}
 use Rattle.life_core.specs.Moment.{Moment}
 use Rattle.life_core.specs.Recorded.{Recorded}
+use Rattle.life_core.specs.declared.body.limited.Limited.{Limited}
+use Rattle.life_core.specs.declared.event.Event.{Event}
+use Rattle.life_core.specs.declared.fault.Fault.{Fault}
+use Rattle.life_core.specs.declared.fault.Fault.TheVariants as fault
+use Rattle.life_core.specs.declared.fault.PanicText.{PanicText}
 use Rattle.life_core.specs.declared.message.Request.{Request}
 use Rattle.life_core.specs.declared.message.Response.{Response}
 use Rattle.life_core.specs.declared.message.ResponseHead.{ResponseHead}
@@ -20,12 +26,15 @@ use Rattle.life_script.specs.ScriptView.{ScriptView}
 use Rattle.life_script.specs.Views.{ReplyView}
 use Rattle.life_script.specs.declared.scenario.BodyItem.{BodyItem}
 use Rattle.life_script.specs.declared.scenario.BodyItem.TheVariants as body_item
+use Rattle.life_script.specs.declared.scenario.CallItem.{CallItem}
+use Rattle.life_script.specs.declared.scenario.CallItem.TheVariants as call_item
 use Rattle.life_script.specs.declared.scenario.PollItem.{PollItem}
 use Rattle.life_script.specs.declared.scenario.Then.{Then}
 use Rattle.life_script.specs.declared.scenario.Then.TheVariants as then_
 use Rattle.life_head.specs.declared.request_id.id.RequestId.{RequestId}
 use Rattle.life_head.specs.declared.request_id.number.Number.{Number}
 use Rattle.life_script.specs.Valid.{ScriptFits}
+use Rattle.life_stack.specs.Handing.{handed_from, room_before}
 use Rattle.life_stack.specs.declared.ext.Ext.{Ext}
 use Rattle.life_stack.specs.declared.script_service.ScriptBody.{ScriptBody}
 use Rattle.life_stack.specs.declared.script_service.ScriptFuture.{ScriptFuture}
@@ -59,6 +68,11 @@ with_id e id = record e { id = Some id }
 pub record IsBodyOf (reply : ReplyView) (b : ScriptBody) : Type 0 where
   pub items : items_of b ≡ reply.body
   pub tells : b.tells ≡ reply.tells
+
+-- the body of a request: these items, and it does not tell its end
+pub record IsRequestBody (items : List BodyItem) (b : ScriptBody) : Type 0 where
+  pub items_are : items_of b ≡ items
+  pub tells : b.tells ≡ false
 
 pub record IsDefaultBody (b : ScriptBody) : Type 0 where
   pub items : items_of b ≡ []
@@ -103,26 +117,51 @@ pub record IsReply (reply : ReplyView) (r : Response ScriptBody Ext) : Type 0 wh
   pub head : IsReplyHead reply.status reply.headers r.head
   pub body : IsBodyOf reply r.body
 
+-- what a poll of the scripted service answers: a response, a panic or an error
+abbrev pub ScriptAnswer : Type 0
+ScriptAnswer = Poll (Result (Response ScriptBody Ext) (Fault (List ℕ)))
+
 -- the answer to what an item says
-abbrev pub Answers : Then → Poll (Result (Response ScriptBody Ext) (List ℕ)) → Type 0
+abbrev pub Answers : Then → ScriptAnswer → Type 0
 Answers then_.Pending a = a ≡ Pending
-Answers (then_.Fail error) a = a ≡ Ready (Err error)
+Answers (then_.Panic text) a = a ≡ Ready (Err (fault.Panicked text))
+Answers (then_.Fail error) a = a ≡ Ready (Err (fault.Err error))
 Answers (then_.Respond reply) (Ready (Ok r)) = IsReply reply r
 Answers (then_.Respond reply) (Ready (Err e)) = ⊥
 Answers (then_.Respond reply) Pending = ⊥
 
--- the answer to an item, or to none
-abbrev pub Responds : Option PollItem → Poll (Result (Response ScriptBody Ext) (List ℕ)) → Type 0
-Responds None a = a ≡ Pending
-Responds (Some item) a = Answers item.then a
+-- the items that the request's body has left, where it is limited
+abbrev pub asked_of : Limited ScriptBody → List BodyItem
+asked_of b = items_of (body_in b)
 
-pub record NextPoll (old : ScriptFuture) (a : Poll (Result (Response ScriptBody Ext) (List ℕ))) (new : ScriptFuture) : Type 0 where
-  pub answer_is : Responds (slice_get (polls_of old) 0) a
+-- the body was asked n times, and each answer was recorded
+pub record Asked (n : ℕ) (old : Limited ScriptBody) (was : Recorded) (new : Limited ScriptBody) (now : Recorded) : Type 0 where
+  pub grew : Grew was now (handed_from (room_in old) (asked_of old) 0 n)
+  pub room : room_in new ≡ room_before (room_in old) (asked_of old) n
+  pub rest : asked_of new ≡ drop n (asked_of old)
+
+-- the body is asked as often as an item says, and then the item is answered; without an item nothing is
+abbrev pub Responds : Option PollItem → ScriptFuture → Recorded → ScriptAnswer → ScriptFuture → Recorded → Type 0
+Responds None old was a new now = (a ≡ Pending) × (new.body ≡ old.body) × (now ≡ was)
+Responds (Some item) old was a new now = Answers item.then a × Asked item.asks old.body was new.body now
+
+pub record NextPoll (old : ScriptFuture) (was : Recorded) (a : ScriptAnswer) (new : ScriptFuture) (now : Recorded) : Type 0 where
+  pub responds : Responds (slice_get (polls_of old) 0) old was a new now
   pub rest : polls_of new ≡ drop 1 (polls_of old)
+  pub none : new.panic ≡ None
 
-abbrev pub ScriptPolls : ScriptFuture → Recorded → Moment → Reply ScriptBody Ext (List ℕ) → ScriptFuture → Recorded → Type 0
-ScriptPolls old was m (Ok a) new now = NextPoll old a new × (now ≡ was)
-ScriptPolls old was m (Err e) new now = now ≡ was
+-- a panic of the call is answered by the first poll
+abbrev pub PollsBy : Option PanicText → ScriptFuture → Recorded → ScriptAnswer → ScriptFuture → Recorded → Type 0
+PollsBy (Some text) old was a new now = (a ≡ Ready (Err (fault.Panicked text))) × (now ≡ was)
+PollsBy None old was a new now = NextPoll old was a new now
+
+-- what was recorded before stays
+abbrev pub Extends : Recorded → Recorded → Type 0
+Extends was now = (es : List Event) × (now.log ≡ was.log ++ es) × (now.rest ≡ was.rest)
+
+abbrev pub ScriptPolls : ScriptFuture → Recorded → Moment → Reply ScriptBody Ext (Fault (List ℕ)) → ScriptFuture → Recorded → Type 0
+ScriptPolls old was m (Ok a) new now = PollsBy old.panic old was a new now
+ScriptPolls old was m (Err e) new now = Extends was now
 
 abbrev pub IsServiceOf : List ScriptView → ScriptService → Type 0
 IsServiceOf scripts s = s.scripts.value.items ≡ scripts
@@ -135,24 +174,42 @@ Finds script i s = (slice_get s.scripts.value.items i ≡ Some script) × Script
 abbrev pub IsNumbered : {B : Type 0} → ℕ → Request B Ext → Type 0
 IsNumbered i r = r.head.ext.number ≡ Some (record { 0 = i })
 
--- the request of a script and its number: GET /, HTTP/1.1, with the script's headers and a body without items
+-- the request of a script and its number: GET /, HTTP/1.1, with the script's headers and body
 pub record IsRequestOf (script : ScriptView) (i : ℕ) (r : Request ScriptBody Ext) : Type 0 where
   pub head : IsHeadFor (codes "GET") (λ uri. HasParts uri None None (codes "/")) (record r.head.parts { headers = [] })
   pub headers_are : r.head.parts.headers ≡ map_of script.headers
   pub numbered : IsNumbered i r
-  pub body : IsDefaultBody r.body
+  pub body : IsRequestBody script.body r.body
 
--- the poll items of the script of a number, none where there is no such script
-abbrev pub polls_for : List ScriptView → Option Number → List PollItem
-polls_for scripts None = []
-polls_for scripts (Some i) = option_map_or (λ (s : ScriptView). s.polls) (slice_get scripts i.0) []
+-- the script of a number; without one it serves and has no poll items
+abbrev pub script_for : List ScriptView → Option Number → Option ScriptView
+script_for scripts None = None
+script_for scripts (Some i) = slice_get scripts i.0
 
-abbrev pub ScriptReadies : ScriptService → Recorded → Moment → Poll (Result Unit (List ℕ)) → ScriptService → Recorded → Type 0
+abbrev pub polls_for : Option ScriptView → List PollItem
+polls_for None = []
+polls_for (Some script) = script.polls
+
+abbrev pub panic_of : CallItem → Option PanicText
+panic_of call_item.Serve = None
+panic_of (call_item.Panic text) = Some text
+
+abbrev pub panic_for : Option ScriptView → Option PanicText
+panic_for None = None
+panic_for (Some script) = panic_of script.call
+
+abbrev pub ScriptReadies : ScriptService → Recorded → Moment → Poll (Result Unit (Fault (List ℕ))) → ScriptService → Recorded → Type 0
 ScriptReadies old was m answer new now = (answer ≡ Ready (Ok tt)) × (new ≡ old) × (now ≡ was)
 
--- the future has all poll items of the request's script; the service keeps its scripts
-pub record ScriptCalls (old : ScriptService) (req : Request ScriptBody Ext) (was : Recorded) (m : Moment)
+-- the future has all poll items of the request's script, the panic of its call, and the request's body
+pub record IsBegun (found : Option ScriptView) (body : Limited ScriptBody) (f : ScriptFuture) : Type 0 where
+  pub polls : polls_of f ≡ polls_for found
+  pub panic : f.panic ≡ panic_for found
+  pub body_is : f.body ≡ body
+
+-- the service keeps its scripts
+pub record ScriptCalls (old : ScriptService) (req : Request (Limited ScriptBody) Ext) (was : Recorded) (m : Moment)
     (answer : Result ScriptFuture NoMemory) (new : ScriptService) (now : Recorded) : Type 0 where
-  pub begun : IfOk answer (λ f. polls_of f ≡ polls_for old.scripts.value.items req.head.ext.number)
+  pub begun : IfOk answer (IsBegun (script_for old.scripts.value.items req.head.ext.number) req.body)
   pub same : new ≡ old
   pub unrecorded : now ≡ was

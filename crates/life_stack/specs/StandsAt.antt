@@ -1,9 +1,6 @@
 -- Where a live value of a request stands after some of its acts, and what each call of it gives, by the table.
 use Rattle.std.specs.Prelude.{◌≡◌, ℕ, suc, List, [], ◌∷◌, ◌++◌, ◌+◌, length, drop, reverse, slice_index, Bool, false, ◌⊎◌, Option, Some, None, Result, Ok, Err}
-use Rattle.http_body.specs.Frame.{data_frame, trailers_frame}
 use Rattle.http_body.specs.declared.frame.Frame.{Frame}
-use Rattle.http_header.specs.FieldValue.{FieldValue}
-use Rattle.http_header.specs.HeaderMap.{Entries}
 use Rattle.life_core.specs.Fields.{fields}
 use Rattle.life_core.specs.History.{Grew, Latest, Waiting, Answered}
 use Rattle.life_core.specs.Recorded.{Recorded}
@@ -18,13 +15,13 @@ use Rattle.life_script.specs.Views.{ReplyView}
 use Rattle.life_script.specs.declared.answer.Answer.{Answer}
 use Rattle.life_script.specs.declared.answer.Answer.TheVariants as ans
 use Rattle.life_script.specs.declared.answer.Seen.{Seen}
-use Rattle.life_script.specs.declared.answer.Seen.TheVariants as seen
+use Rattle.life_stack.specs.Seeing.{Shows}
 use Rattle.life_script.specs.declared.scenario.Act.TheVariants as act
 use Rattle.life_script.specs.declared.scenario.Limits.{Limits}
 use Rattle.life_stack.specs.Driven.{DriveFuture, DriveBody, FutureStands, BodyStands, body_plan, plan, timed_body_history, drive_ends}
 use Rattle.life_stack.specs.Own.{Own, NotBefore, called_at, dropped_at, polls}
 use Rattle.life_stack.specs.declared.ext.Ext.{Ext}
-use Rattle.life_stack.specs.Story.{answer, answers, any_ending, drops, events_of, Failed, Replied, head, kind_of}
+use Rattle.life_stack.specs.Story.{answer, answers, any_ending, events, Failed, Replied, head, kind_of}
 
 -- no Call yet; what these acts answered ends nothing
 pub record FreshAt (limits : Limits) (script : Numbered) (acts : List Own) : Type 0 where
@@ -98,12 +95,7 @@ pub record FuturePolled (limits : Limits) (script : Numbered) (acts : List Own) 
     (a : Poll (Result (Response DriveBody Ext) (List ℕ))) (new : DriveFuture) (now : Recorded) : Type 0 where
   pub said : FutureSaid a (answer limits script acts (t, act.Poll))
   pub left : FutureLeft limits script (acts ++ (t, act.Poll) ∷ []) a new
-  pub grew : Grew was now (events_of (answer limits script acts (t, act.Poll)) (drops limits script (acts ++ (t, act.Poll) ∷ []) t))
-
--- what is seen of a frame
-abbrev pub Shows : Seen → Frame (List ℕ) → Type 0
-Shows (seen.Chunk bytes) f = f ≡ data_frame bytes
-Shows (seen.Trailers shown) f = (map : Entries FieldValue) × (f ≡ trailers_frame map) × (shown ≡ fields map)
+  pub grew : Grew was now (events limits script acts (t, act.Poll))
 
 -- what the answer of a body says, where the body then tells this of its end
 abbrev pub BodySaid : Poll (Option (Result (Frame (List ℕ)) (BodyError (List ℕ)))) → Bool → Answer → Type 0
@@ -116,7 +108,7 @@ pub record BodyPolled (limits : Limits) (script : Numbered) (acts : List Own) (t
     (a : Poll (Option (Result (Frame (List ℕ)) (BodyError (List ℕ))))) (new : DriveBody) (now : Recorded) : Type 0 where
   pub said : BodySaid a (drive_ends new) (answer limits script acts (t, act.Poll))
   pub left : BodyAt limits script (acts ++ (t, act.Poll) ∷ []) new
-  pub grew : Grew was now (events_of (answer limits script acts (t, act.Poll)) (drops limits script (acts ++ (t, act.Poll) ∷ []) t))
+  pub grew : Grew was now (events limits script acts (t, act.Poll))
 
 -- a call at time t gives a future that stands with it
 pub record Called (limits : Limits) (script : Numbered) (acts : List Own) (t : ℕ) (was : Recorded) (f : DriveFuture) (now : Recorded) : Type 0 where

@@ -1,18 +1,15 @@
 -- The story of one request: what each of its acts answers and records, as a table over the finished list of its acts.
-use Rattle.std.specs.Prelude.{ℕ, suc, ◌-◌, List, [], ◌∷◌, ◌++◌, length, slice_get, slice_index, Bool, true, false, ◌&&◌, ◌||◌, if◌then◌else◌, nat_le, nat_lt, ◌==◌, Option, Some, None, flat_map}
+use Rattle.std.specs.Prelude.{ℕ, suc, ◌+◌, ◌-◌, List, [], ◌∷◌, ◌++◌, length, slice_get, slice_index, Bool, true, false, ◌&&◌, ◌||◌, if◌then◌else◌, nat_le, nat_lt, ◌==◌, Option, Some, None, flat_map}
 use Rattle.life_core.specs.Due.{due, since}
 use Rattle.life_core.specs.declared.event.Event.{Event}
 use Rattle.life_core.specs.declared.event.Event.TheVariants as event
 use Rattle.life_core.specs.declared.event.DropKind.{DropKind}
 use Rattle.life_core.specs.declared.event.DropKind.TheVariants as drop_kind
 use Rattle.life_core.specs.declared.latency.LatencyUnit.TheVariants.{Nanos}
-use Rattle.http_header.specs.HeaderMap.{Entries}
-use Rattle.life_core.specs.Fields.{fields}
 use Rattle.life_core.specs.declared.body.BodyError.TheVariants.{Elapsed, Inner}
-use Rattle.life_core.specs.declared.fields.Shown.{Shown}
 use Rattle.http_header.specs.FieldValue.{FieldValue}
+use Rattle.life_stack.specs.Handing.{Decision, TooLarge, Panicked, Served, decision, handed_bytes, panic_reply, service_events, shown_headers, too_large_reply}
 use Rattle.life_stack.specs.Ident.{Numbered, ident, identified}
-use Rattle.life_script.specs.Headers.{Headers, map_of}
 use Rattle.life_script.specs.ToldView.{TurnView, ToldView}
 use Rattle.life_script.specs.Views.{ReplyView}
 use Rattle.life_script.specs.declared.answer.Answer.{Answer}
@@ -43,7 +40,7 @@ pub data Outcome : Type 0 where
   Replied : ReplyView → Outcome
   Failed : List ℕ → Outcome
 
--- the least index of a poll item that responds or fails, with what it gives
+-- the least index of a poll item that panics, responds or fails, with what it gives
 abbrev pub later : Option (ℕ × Outcome) → Option (ℕ × Outcome)
 later None = None
 later (Some (r, o)) = Some (suc r, o)
@@ -54,6 +51,7 @@ replied id reply = record reply { headers = identified id reply.headers }
 
 abbrev pub outcome_in : FieldValue → Then → Option Outcome
 outcome_in id then_.Pending = None
+outcome_in id (then_.Panic text) = Some (Replied (replied id panic_reply))
 outcome_in id (then_.Fail error) = Some (Failed error)
 outcome_in id (then_.Respond reply) = Some (Replied (replied id reply))
 
@@ -64,6 +62,15 @@ here_or_later None rest = later rest
 abbrev pub first_outcome : FieldValue → List PollItem → Option (ℕ × Outcome)
 first_outcome id [] = None
 first_outcome id (item ∷ items) = here_or_later (outcome_in id item.then) (first_outcome id items)
+
+-- the least index of a poll at which the service answers, were it asked at each: the first where the decision is not to serve
+abbrev pub decided_outcome : Decision → Numbered → Option (ℕ × Outcome)
+decided_outcome TooLarge script = Some (0, Replied (replied (ident script) too_large_reply))
+decided_outcome (Panicked text) script = Some (0, Replied (replied (ident script) panic_reply))
+decided_outcome Served script = first_outcome (ident script) script.script.polls
+
+abbrev pub ready_outcome : Limits → Numbered → Option (ℕ × Outcome)
+ready_outcome limits script = decided_outcome (decision limits script.script) script
 
 -- the lesser of the two; the due case wins a tie
 abbrev pub earlier : Option ℕ → Option (ℕ × Outcome) → Outcome → Option (ℕ × Outcome)
@@ -81,17 +88,13 @@ abbrev pub due_reply : Limits → ReplyView
 due_reply limits = record { status = limits.timeout_status; headers = []; body = []; tells = true }
 
 abbrev pub head : Limits → Numbered → ℕ → List ℕ → Option (ℕ × Outcome)
-head limits script t0 ps = counted (length ps) (earlier (first_due t0 limits.timeout ps) (first_outcome (ident script) script.script.polls) (Replied (due_reply limits)))
+head limits script t0 ps = counted (length ps) (earlier (first_due t0 limits.timeout ps) (ready_outcome limits script) (Replied (due_reply limits)))
 
 -- THE BODY of a reply.
 
 -- whether it tells its end after m items
 abbrev pub tells_after : ReplyView → ℕ → Bool
 tells_after reply m = reply.tells && nat_le (length reply.body) m
-
--- header fields as they are shown: each name once with its values in order, sorted by name
-abbrev pub shown_headers : Headers → Entries Shown
-shown_headers headers = fields (map_of headers)
 
 -- what item k answers, or none
 abbrev pub item_answer : ReplyView → ℕ → Option BodyItem → Answer
@@ -206,23 +209,40 @@ drops limits script acts d = drops_at (called_at acts) (answers limits script ac
 
 -- THE STORY.
 
--- what is recorded in the turn of an answer: the early drop stands in the turn of the Drop
-abbrev pub events_of : Answer → List Event → List Event
-events_of ans.Called es = []
-events_of ans.Idle es = []
-events_of ans.Pending es = []
-events_of (ans.Response status headers ended) es = []
-events_of (ans.ServiceError error) es = []
-events_of (ans.Frame frame ended) es = []
-events_of ans.End es = []
-events_of (ans.Fault fault) es = []
-events_of ans.Dropped es = es
+-- poll k at time t reaches the service where its timer is not due
+abbrev pub undue_events : Limits → Numbered → ℕ → ℕ → ℕ → List Event
+undue_events limits script t0 k t = if due t0 limits.timeout t then [] else service_events limits script.script k
+
+-- the service is polled up to the head
+abbrev pub poll_events : Limits → Numbered → ℕ → ℕ → ℕ → Option (ℕ × Outcome) → List Event
+poll_events limits script t0 k t None = undue_events limits script t0 k t
+poll_events limits script t0 k t (Some (h, o)) = if nat_le k h then undue_events limits script t0 k t else []
+
+abbrev pub on_poll_events : Limits → Numbered → Option ℕ → Option ℕ → List ℕ → ℕ → ℕ → List Event
+on_poll_events limits script None d ps k t = []
+on_poll_events limits script (Some t0) (Some d) ps k t = []
+on_poll_events limits script (Some t0) None ps k t = poll_events limits script t0 k t (head limits script t0 ps)
+
+-- the early drop stands in the turn of the Drop
+abbrev pub drop_events : Answer → List Event → List Event
+drop_events ans.Called es = []
+drop_events ans.Idle es = []
+drop_events ans.Pending es = []
+drop_events (ans.Response status headers ended) es = []
+drop_events (ans.ServiceError error) es = []
+drop_events (ans.Frame frame ended) es = []
+drop_events ans.End es = []
+drop_events (ans.Fault fault) es = []
+drop_events ans.Dropped es = es
+
+-- what is recorded in the turn of an act
+abbrev pub events : Limits → Numbered → List Own → Own → List Event
+events limits script before (t, act.Call) = []
+events limits script before (t, act.Poll) = on_poll_events limits script (called_at before) (dropped_at before) (polls before ++ t ∷ []) (length (polls before)) t
+events limits script before (t, act.Drop) = drop_events (answer limits script before (t, act.Drop)) (drops limits script (before ++ (t, act.Drop) ∷ []) t)
 
 abbrev pub turn : Limits → Numbered → List Own → Own → TurnView
-turn limits script before x = record {
-  answer = answer limits script before x;
-  events = events_of (answer limits script before x) (drops limits script (before ++ x ∷ []) x.0);
-}
+turn limits script before x = record { answer = answer limits script before x; events = events limits script before x }
 
 abbrev pub turns_after : Limits → Numbered → List Own → List Own → List TurnView
 turns_after limits script before [] = []
@@ -242,7 +262,17 @@ story limits script acts end = record { turns = turns_after limits script [] act
 -- the early-drop records among what was told, in order
 abbrev pub dropped_in : List Event → List Event
 dropped_in [] = []
+dropped_in (event.Panic level text ∷ es) = dropped_in es
+dropped_in (event.Handed got ∷ es) = dropped_in es
 dropped_in (event.Dropped what latency ∷ es) = event.Dropped what latency ∷ dropped_in es
 
 abbrev pub drop_records : ToldView → List Event
 drop_records told = flat_map (λ (made : TurnView). dropped_in made.events) told.turns ++ dropped_in told.at_end
+
+-- how many bytes of its request's body the service was handed
+abbrev pub turns_bytes : List TurnView → ℕ
+turns_bytes [] = 0
+turns_bytes (made ∷ turns) = handed_bytes made.events + turns_bytes turns
+
+abbrev pub body_bytes : ToldView → ℕ
+body_bytes told = turns_bytes told.turns + handed_bytes told.at_end

@@ -1,13 +1,14 @@
 //! Drives the steps of a scenario, one after another.
-ghost use Rattle.std.specs.Prelude.{◌≡◌, ℕ, slice_get, Some, Err, IfOk, IfErr, IsOk};
+ghost use Rattle.std.specs.Prelude.{◌≡◌, ◌≤◌, ℕ, slice_get, Some, Err, IfOk, IfErr, IsOk};
 ghost use Rattle.life_script.specs.ScriptView.{ScriptView};
 ghost use Rattle.life_script.specs.ToldView.{ToldView};
 ghost use Rattle.life_script.specs.Valid.{IsValid, verdict};
 ghost use Rattle.life_script.specs.declared.error.DriveError.TheVariants.{NoMemory as OutOfMemory};
 ghost use Rattle.life_stack.specs.Drive.{IsRefused, report_of};
+ghost use Rattle.life_stack.specs.Handing.{room};
 ghost use Rattle.life_stack.specs.Ident.{numbered};
 ghost use Rattle.life_stack.specs.Own.{drop_time, dropped_at, own};
-ghost use Rattle.life_stack.specs.Story.{drop_records, drops, story};
+ghost use Rattle.life_stack.specs.Story.{body_bytes, drop_records, drops, story};
 
 use crate::session::{Report, Session};
 use life_script::{DriveError, Limits, Scenario};
@@ -22,6 +23,8 @@ pub fn drive(alloc: Global, limits: &Limits, scenario: &Scenario) -> Result<Repo
         → slice_get r.told i ≡ Some (story limits.now (numbered i script) (own r.steps i) r.end)) }
     ensures once { IfOk result (λ r. (i : ℕ) (script : ScriptView) (t : ToldView) → slice_get scenario.now.requests i ≡ Some script → slice_get r.told i ≡ Some t
         → drop_records t ≡ drops limits.now (numbered i script) (own r.steps i) (drop_time (dropped_at (own r.steps i)) r.end)) }
+    ensures bounded { IfOk result (λ r. (i : ℕ) (script : ScriptView) (t : ToldView) → slice_get scenario.now.requests i ≡ Some script → slice_get r.told i ≡ Some t
+        → body_bytes t ≤ room limits.now script) }
     ensures valid { IsOk result → IsValid scenario.now }
     ensures refused { IfErr result (λ e. IsRefused scenario.now e) }
     ensures exact { IfErr (verdict scenario.now) (λ e. result ≡ Err e) }

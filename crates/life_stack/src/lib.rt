@@ -1,6 +1,7 @@
 //! The driven stack over a scripted service, and the program's top call.
 #![tactic(auto)]
 
+mod asking;
 mod driving;
 mod due;
 mod exchange;
@@ -11,6 +12,7 @@ mod live;
 mod report;
 mod running;
 mod script_service;
+mod seeing;
 mod session;
 mod stack;
 mod status;

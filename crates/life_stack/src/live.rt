@@ -2,27 +2,23 @@
 ghost use Rattle.std.specs.Prelude.{◌≡◌, ◌≤◌, ◌++◌, ℕ, List, Ok, IfOk, IsErr, IsOk};
 ghost use Rattle.life_core.specs.Fields.{fields};
 ghost use Rattle.life_core.specs.Moment.{SameContext};
-ghost use Rattle.life_script.specs.declared.answer.Seen.{Seen as SeenView};
 ghost use Rattle.life_stack.specs.Ident.{Numbered, numbered};
 ghost use Rattle.life_script.specs.declared.scenario.Limits.{Limits as LimitsView};
 ghost use Rattle.life_stack.specs.Driven.{BodyMay, FutureLive, FutureMay, StackMay, StackStands, drive_ends};
 ghost use Rattle.life_stack.specs.LiveAt.{HasRoom, IsIdle, LiveAt, MayGoOn, Shown};
 ghost use Rattle.life_stack.specs.Own.{NotBefore, Own};
-ghost use Rattle.life_stack.specs.StandsAt.{BodyAt, FreshAt, FutureAt, Shows};
+ghost use Rattle.life_stack.specs.StandsAt.{BodyAt, FreshAt, FutureAt};
 ghost use Rattle.life_stack.specs.Exchanged.{Ended};
 
 use crate::ext::Ext;
 use crate::script_service::ScriptBody;
+use crate::seeing::seen_in;
 use crate::stack::{
     DriveBody, DriveFuture, DriveStack, abandon_body, abandon_future, call_stack, poll_body,
     poll_future, request_of,
 };
-use bytes::Bytes;
-use http_body::Frame;
-use life_core::{
-    Body, Cx, Fields, Got, Log, NoMemory, Octets, Poll, Recorder, Response, ResponseHead,
-};
-use life_script::{Act, Answer, Script, Seen};
+use life_core::{Body, Cx, Fields, Got, Log, NoMemory, Poll, Recorder, Response, ResponseHead};
+use life_script::{Act, Answer, Script};
 use std::alloc::Global;
 
 /// What a request has that must be spent.
@@ -33,26 +29,6 @@ pub(crate) enum Live {
     Body(DriveBody),
     /// All was spent.
     Over,
-}
-
-/// What is seen of a frame.
-fn seen_in(alloc: Global, frame: Frame<Bytes>) -> Got<Seen>
-    ensures { IfOk result (λ seen. (s : SeenView) → Shows s frame → seen ≡ s) }
-{
-    if let Some(map) = frame.trailers_ref() {
-        return match Fields::of(alloc, map) {
-            Ok(fields) => Ok(Seen::Trailers(fields)),
-            Err(no_memory) => Err(no_memory),
-        };
-    }
-    let octets = match frame.into_data() {
-        Ok(bytes) => Octets::copy(alloc, bytes.as_slice()),
-        Err(_) => Octets::copy(alloc, &[]),
-    };
-    match octets {
-        Ok(octets) => Ok(Seen::Chunk(octets)),
-        Err(no_memory) => Err(no_memory),
-    }
 }
 
 /// Gives up a body that can't go on for want of memory.

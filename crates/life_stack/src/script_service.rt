@@ -1,17 +1,18 @@
 //! A service that answers by a script.
 ghost use Rattle.std.specs.Prelude.{◌≡◌, ⊤, IfOk, slice_get, drop};
 ghost use Rattle.std.specs.Option.{option_copied};
-ghost use Rattle.life_stack.specs.Script.{ScriptCalls, ScriptReadies, ScriptPolls, ScriptFrames, ScriptLeaves, IsReply, IsDefaultBody, polls_for, tells_end, hint_of};
+ghost use Rattle.life_stack.specs.Script.{Answers, ScriptCalls, ScriptReadies, ScriptPolls, ScriptFrames, ScriptLeaves, IsReply, IsDefaultBody, panic_for, panic_of, polls_for, script_for, tells_end, hint_of};
 
+use crate::asking::ask_times;
 use crate::ext::Ext;
 use bytes::Bytes;
 use http_body::{Frame, SizeHint};
 use life_core::{
-    Body, Cx, DefaultBody, Future, Got, List, NoMemory, Poll, Recorder, Request, Response,
-    ResponseHead, Service, Spend, Text, Twin, give_up_request,
+    Body, Cx, DefaultBody, Fault, Future, Got, Limited, List, NoMemory, PanicText, Poll, Recorder,
+    Request, Response, ResponseHead, Service, Spend, Text, Twin, give_up_request,
 };
 use life_head::request_id::Number;
-use life_script::{BodyItem, BodyItems, PollItems, Reply, Scripts, Then};
+use life_script::{BodyItem, BodyItems, CallItem, PollItems, Reply, Script, Scripts, Then};
 use std::alloc::Global;
 use std::rc::Rc;
 
@@ -35,7 +36,18 @@ pub struct ScriptBody {
 }
 
 impl ScriptBody {
-    ghost use Rattle.life_stack.specs.Script.{IsBodyOf};
+    ghost use Rattle.life_stack.specs.Script.{IsBodyOf, IsRequestBody};
+
+    /// The body of a request: it gives these items and does not tell its end. It takes no memory.
+    pub(crate) fn of_request(items: BodyItems) -> ScriptBody
+        ensures { IsRequestBody items.items result }
+    {
+        ScriptBody {
+            items: Some(items),
+            next: 0,
+            tells: false,
+        }
+    }
 
     /// The body of a scripted response.
     fn of_reply(reply: Reply) -> ScriptBody
@@ -134,11 +146,14 @@ impl<L: Recorder> Body<L> for ScriptBody {
     }
 }
 
-/// Answers the items of a list, one a poll. It holds the request's body until it is abandoned.
+/// Answers the items of a list, one a poll, each after it asked for frames of the request's body. It holds
+/// that body until it is abandoned.
 pub struct ScriptFuture {
     polls: PollItems,
     next: u64,
-    body: ScriptBody,
+    body: Limited<ScriptBody>,
+    /// The panic of the call, until the first poll tells it.
+    panic: Option<PanicText>,
 }
 
 impl<L: Recorder> Spend<L> for ScriptFuture {
@@ -151,33 +166,54 @@ impl<L: Recorder> Spend<L> for ScriptFuture {
             polls: _,
             next: _,
             body,
+            panic: _,
         } = self;
         body.abandon(cx)
     }
 }
 
 impl<L: Recorder> Future<L> for ScriptFuture {
-    type Output = Result<Response<ScriptBody, Ext>, Text>;
+    type Output = Result<Response<ScriptBody, Ext>, Fault<Text>>;
 
     ghost live = { λ _. ⊤ };
 
     ghost polls = { ScriptPolls };
 
-    fn poll(&mut self, cx: &mut Cx<'_, L>) -> Got<Poll<Result<Response<ScriptBody, Ext>, Text>>> {
+    fn poll(
+        &mut self,
+        cx: &mut Cx<'_, L>,
+    ) -> Got<Poll<Result<Response<ScriptBody, Ext>, Fault<Text>>>> {
+        if let Some(text) = self.panic.take() {
+            return Ok(Poll::Ready(Err(Fault::Panicked(text))));
+        }
         let Some(item) = take_next(&self.polls, &mut self.next) else {
             return Ok(Poll::Pending);
         };
-        match &item.then {
-            Then::Pending => Ok(Poll::Pending),
-            Then::Fail(error) => match error.twin(cx.alloc) {
-                Ok(error) => Ok(Poll::Ready(Err(error))),
-                Err(no_memory) => Err(no_memory),
-            },
-            Then::Respond(reply) => match respond(cx.alloc, reply) {
-                Ok(response) => Ok(Poll::Ready(Ok(response))),
-                Err(no_memory) => Err(no_memory),
-            },
+        match ask_times(&mut self.body, item.asks, cx) {
+            Ok(()) => answer(cx.alloc, &item.then),
+            Err(no_memory) => Err(no_memory),
         }
+    }
+}
+
+/// The answer to what an item says. The one error is want of memory.
+fn answer(alloc: Global, then: &Then) -> Got<Poll<Result<Response<ScriptBody, Ext>, Fault<Text>>>>
+    ensures { IfOk result (Answers then.now) }
+{
+    match then {
+        Then::Pending => Ok(Poll::Pending),
+        Then::Panic(text) => match text.twin(alloc) {
+            Ok(text) => Ok(Poll::Ready(Err(Fault::Panicked(text)))),
+            Err(no_memory) => Err(no_memory),
+        },
+        Then::Fail(error) => match error.twin(alloc) {
+            Ok(error) => Ok(Poll::Ready(Err(Fault::Err(error)))),
+            Err(no_memory) => Err(no_memory),
+        },
+        Then::Respond(reply) => match respond(alloc, reply) {
+            Ok(response) => Ok(Poll::Ready(Ok(response))),
+            Err(no_memory) => Err(no_memory),
+        },
     }
 }
 
@@ -212,24 +248,47 @@ impl ScriptService {
         ScriptService { scripts }
     }
 
-    /// The poll items for a request of this number.
-    fn polls_for(&self, alloc: Global, number: Option<Number>) -> Got<PollItems>
-        ensures { IfOk result (λ polls. polls.items ≡ polls_for self.now.scripts.value.items number) }
+    /// The script of a number, or none.
+    fn find(&self, number: Option<Number>) -> Option<&Script>
+        ensures { option_copied result ≡ script_for self.now.scripts.value.items number }
     {
-        let Some(number) = number else {
-            return Ok(List::new(alloc));
-        };
-        match self.scripts.get(number.0) {
-            Some(script) => script.polls.twin_items(alloc),
-            None => Ok(List::new(alloc)),
+        match number {
+            Some(number) => self.scripts.get(number.0),
+            None => None,
         }
     }
 }
 
-impl<L: Recorder> Service<Request<ScriptBody, Ext>, L> for ScriptService {
+/// The poll items of a script. The one error is want of memory.
+fn polls_of(alloc: Global, script: Option<&Script>) -> Got<PollItems>
+    ensures { IfOk result (λ polls. polls.items ≡ polls_for (option_copied script.entry)) }
+{
+    match script {
+        Some(script) => script.polls.twin_items(alloc),
+        None => Ok(List::new(alloc)),
+    }
+}
+
+/// The panic of a script's call, if it has one. The one error is want of memory.
+fn panic_of(alloc: Global, script: Option<&Script>) -> Got<Option<PanicText>>
+    ensures { IfOk result (λ panic. panic ≡ panic_for (option_copied script.entry)) }
+{
+    let Some(script) = script else {
+        return Ok(None);
+    };
+    match &script.call {
+        CallItem::Serve => Ok(None),
+        CallItem::Panic(text) => match text.twin(alloc) {
+            Ok(text) => Ok(Some(text)),
+            Err(no_memory) => Err(no_memory),
+        },
+    }
+}
+
+impl<L: Recorder> Service<Request<Limited<ScriptBody>, Ext>, L> for ScriptService {
     type Response = Response<ScriptBody, Ext>;
 
-    type Error = Text;
+    type Error = Fault<Text>;
 
     type Future = ScriptFuture;
 
@@ -239,22 +298,29 @@ impl<L: Recorder> Service<Request<ScriptBody, Ext>, L> for ScriptService {
 
     ghost calls = { ScriptCalls };
 
-    fn poll_ready(&mut self, _cx: &mut Cx<'_, L>) -> Poll<Result<(), Text>> {
+    fn poll_ready(&mut self, _cx: &mut Cx<'_, L>) -> Poll<Result<(), Fault<Text>>> {
         Poll::Ready(Ok(()))
     }
 
-    fn call(&mut self, req: Request<ScriptBody, Ext>, cx: &mut Cx<'_, L>) -> Got<ScriptFuture> {
-        match self.polls_for(cx.alloc, req.ext().number) {
-            Ok(polls) => {
-                let (head, body) = req.into_parts();
-                drop(head);
-                Ok(ScriptFuture {
-                    polls,
-                    next: 0,
-                    body,
-                })
-            }
-            Err(_) => Err(give_up_request(req, cx)),
-        }
+    fn call(
+        &mut self,
+        req: Request<Limited<ScriptBody>, Ext>,
+        cx: &mut Cx<'_, L>,
+    ) -> Got<ScriptFuture> {
+        let script = self.find(req.ext().number);
+        let Ok(polls) = polls_of(cx.alloc, script) else {
+            return Err(give_up_request(req, cx));
+        };
+        let Ok(panic) = panic_of(cx.alloc, script) else {
+            return Err(give_up_request(req, cx));
+        };
+        let (head, body) = req.into_parts();
+        drop(head);
+        Ok(ScriptFuture {
+            polls,
+            next: 0,
+            body,
+            panic,
+        })
     }
 }

@@ -19,14 +19,18 @@ use bytes::Bytes;
 use http::HeaderName;
 use http_body::Frame;
 use life_core::{
-    Body, BodyError, Cx, Future, Got, NoMemory, Poll, Recorder, Request, Response, Service, Spend,
-    Text,
+    Body, BodyError, Cx, Full, Future, Got, NoMemory, Poll, Recorder, Request, Response, Service,
+    Spend, Text, UnsyncBoxBody,
 };
 use life_drop::on_early_drop::{NoteDrop, NoteDropped, OnEarlyDropBody, OnEarlyDropService};
 use life_head::request_id::{ByNumber, Number, PropagateRequestId, SetRequestId};
+use life_limit::catch_panic::{CatchPanic, DefaultResponseForPanic};
+use life_limit::limit::{RequestBodyLimit, ResponseBody};
 use life_script::{Limits, Scenario, Script, Scripts};
 use life_time::timeout::{DeadlineBody, ResponseBodyDeadline, Timeout};
 use std::alloc::Global;
+use std::convert::Infallible;
+use std::marker::PhantomData;
 use std::rc::Rc;
 
 /// The layers over the scripted service, from the outside in.
@@ -35,14 +39,20 @@ pub type DriveStack = SetRequestId<Watched, ByNumber>;
 /// The layers that look at the response, over the scripted service.
 type Watched = OnEarlyDropService<ResponseBodyDeadline<Timeout<Named>>, NoteDrop, NoteDrop>;
 
-/// The scripted service under the id of each response.
-type Named = PropagateRequestId<ScriptService>;
+/// The scripted service, bounded and guarded, under the id of each response.
+type Named = PropagateRequestId<RequestBodyLimit<Guarded>>;
+
+/// The scripted service, its panics caught.
+type Guarded = CatchPanic<ScriptService, DefaultResponseForPanic>;
 
 /// The future of a driven request.
 pub type DriveFuture<L> = <DriveStack as Service<Request<ScriptBody, Ext>, L>>::Future;
 
 /// The body of a driven response.
-pub type DriveBody = OnEarlyDropBody<DeadlineBody<ScriptBody>, NoteDropped>;
+pub type DriveBody = OnEarlyDropBody<
+    DeadlineBody<ResponseBody<UnsyncBoxBody<ScriptBody, Full>>>,
+    NoteDropped,
+>;
 
 /// The stack with these limits over a service of these scripts.
 pub(crate) fn stack_over(limits: &Limits, scripts: Rc<Scripts>) -> DriveStack
@@ -50,7 +60,9 @@ pub(crate) fn stack_over(limits: &Limits, scripts: Rc<Scripts>) -> DriveStack
     ensures may { StackMay result }
 {
     let name = HeaderName::from_static("x-request-id");
-    let service = PropagateRequestId::new(ScriptService::new(scripts), name);
+    let service = CatchPanic::new(ScriptService::new(scripts));
+    let service = RequestBodyLimit::new(service, limits.byte_limit);
+    let service = PropagateRequestId::new(service, name);
     let service = Timeout::with_status_code(service, limits.timeout_status, limits.timeout);
     let service = ResponseBodyDeadline::new(service, limits.body_deadline);
     let service = OnEarlyDropService::new(service, NoteDrop::new(), NoteDrop::new());
@@ -80,8 +92,8 @@ pub(crate) fn share(alloc: Global, scripts: &Scripts) -> Got<Rc<Scripts>>
     }
 }
 
-/// The request of a script and its number: GET `/` in HTTP/1.1, with the script's headers in order and a body
-/// without items. The one error is want of memory.
+/// The request of a script and its number: GET `/` in HTTP/1.1, with the script's headers in order and its
+/// body. The one error is want of memory.
 pub(crate) fn request_of(
     alloc: Global,
     script: &Script,
@@ -90,17 +102,18 @@ pub(crate) fn request_of(
     ensures { IfOk result (IsRequestOf script.now number) }
 {
     let headers = script.headers.to_map(alloc)?;
+    let body = script.body.twin_items(alloc)?;
     let ext = Ext {
         number: Some(Number(number)),
         id: None,
     };
-    let mut request = Request::new(alloc, ScriptBody::default(), ext);
+    let mut request = Request::new(alloc, ScriptBody::of_request(body), ext);
     request.head.parts.headers = headers;
     Ok(request)
 }
 
 /// The request of the script of a number, which a valid scenario has: GET `/` in HTTP/1.1, with the script's
-/// headers in order and a body without items. The one error is want of memory.
+/// headers in order and its body. The one error is want of memory.
 pub fn script_request(alloc: Global, scenario: &Scenario, i: u64) -> Got<Request<ScriptBody, Ext>>
     requires valid { IsValid scenario.now }
     requires within { i < length scenario.now.requests }
@@ -125,7 +138,8 @@ pub fn call_stack<L: Recorder>(
     ensures future_may { IfOk result FutureMay }
     ensures context { SameContext L.place cx.old cx.new }
 {
-    stack.call(request, cx)
+    let _ = PhantomData::<Infallible>;
+    <DriveStack as Service<Request<ScriptBody, Ext>, L>>::call(stack, request, cx)
 }
 
 /// Polls a future that waits: the answer and the events are the table's, and what is live afterwards stands
@@ -143,6 +157,7 @@ pub fn poll_future<L: Recorder>(
     ensures may { FutureMay future.new }
     ensures context { SameContext L.place cx.old cx.new }
 {
+    let _ = PhantomData::<Infallible>;
     future.poll(cx)
 }
 
@@ -160,6 +175,7 @@ pub fn abandon_future<L: Recorder>(future: DriveFuture<L>, cx: &mut Cx<'_, L>) -
         → IfErr result (λ error. (L.recorded cx.old.rec.now).spare ≡ 0) }
     ensures context { SameContext L.place cx.old cx.new }
 {
+    let _ = PhantomData::<Infallible>;
     future.abandon(cx)
 }
 

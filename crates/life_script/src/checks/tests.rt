@@ -2,7 +2,9 @@
 use super::check;
 use crate::error::DriveError;
 use crate::headers::HeaderList;
-use crate::scenario::{Act, BodyItem, PollItem, Reply, Scenario, Script, Scripts, Step, Then};
+use crate::scenario::{
+    Act, BodyItem, BodyItems, CallItem, PollItem, Reply, Scenario, Script, Scripts, Step, Then,
+};
 use http::{HeaderName, HeaderValue, StatusCode};
 use life_core::{Got, List, NoMemory};
 use std::alloc::Global;
@@ -19,12 +21,18 @@ fn many(alloc: Global, count: u64) -> Got<HeaderList> {
     Ok(headers)
 }
 
-/// A response with this many header values, and then this many trailers.
-fn reply(alloc: Global, count: u64, trailers: u64) -> Got<Reply> {
-    let headers = many(alloc, count)?;
+/// A body that is pending once, and then has this many trailers.
+fn body(alloc: Global, trailers: u64) -> Got<BodyItems> {
     let mut body = List::new(alloc);
     body.push(BodyItem::Pending)?;
     body.push(BodyItem::Trailers(many(alloc, trailers)?))?;
+    Ok(body)
+}
+
+/// A response with this many header values, and then this many trailers.
+fn reply(alloc: Global, count: u64, trailers: u64) -> Got<Reply> {
+    let headers = many(alloc, count)?;
+    let body = body(alloc, trailers)?;
     Ok(Reply {
         status: StatusCode::OK,
         headers,
@@ -33,26 +41,35 @@ fn reply(alloc: Global, count: u64, trailers: u64) -> Got<Reply> {
     })
 }
 
-/// A script with this many header values, which is pending once and then answers this response.
-fn script(alloc: Global, count: u64, reply: Option<Reply>) -> Got<Script> {
+/// A script with this many header values and then this many trailers, which is pending once and then
+/// answers this response.
+fn script(alloc: Global, count: u64, trailers: u64, reply: Option<Reply>) -> Got<Script> {
     let headers = many(alloc, count)?;
+    let body = body(alloc, trailers)?;
     let mut polls = List::new(alloc);
     polls.push(PollItem {
+        asks: 0,
         then: Then::Pending,
     })?;
     if let Some(reply) = reply {
         polls.push(PollItem {
+            asks: 1,
             then: Then::Respond(reply),
         })?;
     }
-    Ok(Script { headers, polls })
+    Ok(Script {
+        headers,
+        body,
+        call: CallItem::Serve,
+        polls,
+    })
 }
 
 /// Scripts of this many requests.
 fn scripts(alloc: Global, count: u64) -> Got<Scripts> {
     let mut requests = List::new(alloc);
     for _ in 0..count {
-        requests.push(script(alloc, 0, None)?)?;
+        requests.push(script(alloc, 0, 0, None)?)?;
     }
     Ok(requests)
 }
@@ -115,12 +132,12 @@ fn verdicts(rt: HostRuntime) -> Result<(), Fail> {
     Ok(())
 }
 
-/// The verdict, in words, on a second request with these numbers of values: its own, its response's, and
-/// its trailers'. A step is of a request that there is not.
-fn headers_verdict(alloc: Global, own: u64, response: u64, trailers: u64) -> Got<String> {
+/// The verdict, in words, on a second request with these numbers of values: of its headers and trailers,
+/// and of its response's. A step is of a request that there is not.
+fn headers_verdict(alloc: Global, request: (u64, u64), response: (u64, u64)) -> Got<String> {
     let mut requests = scripts(alloc, 1)?;
-    let reply = reply(alloc, response, trailers)?;
-    requests.push(script(alloc, own, Some(reply))?)?;
+    let reply = reply(alloc, response.0, response.1)?;
+    requests.push(script(alloc, request.0, request.1, Some(reply))?)?;
     let mut steps = List::new(alloc);
     steps.push(Step {
         at: 0,
@@ -141,14 +158,15 @@ fn headers_verdict(alloc: Global, own: u64, response: u64, trailers: u64) -> Got
 fn header_verdicts(rt: HostRuntime) -> Result<(), Fail> {
     let alloc = rt.alloc();
     let rows = [
-        (0, 0, 0, "none 0"),
-        (1000, 1000, 1000, "none 0"),
-        (1001, 0, 0, "headers 1"),
-        (0, 1001, 0, "headers 1"),
-        (0, 0, 1001, "headers 1"),
+        ((0, 0), (0, 0), "none 0"),
+        ((1000, 1000), (1000, 1000), "none 0"),
+        ((1001, 0), (0, 0), "headers 1"),
+        ((0, 1001), (0, 0), "headers 1"),
+        ((0, 0), (1001, 0), "headers 1"),
+        ((0, 0), (0, 1001), "headers 1"),
     ];
-    for (own, response, trailers, want) in rows {
-        let words = headers_verdict(alloc, own, response, trailers)?;
+    for (request, response, want) in rows {
+        let words = headers_verdict(alloc, request, response)?;
         assert_eq!(rt; words.as_str(), want);
     }
     Ok(())
@@ -158,9 +176,9 @@ fn header_verdicts(rt: HostRuntime) -> Result<(), Fail> {
 fn first_of_two(rt: HostRuntime) -> Result<(), Fail> {
     let alloc = rt.alloc();
     let mut requests = List::new(alloc);
-    requests.push(script(alloc, 1000, None)?)?;
-    requests.push(script(alloc, 1001, None)?)?;
-    requests.push(script(alloc, 1002, None)?)?;
+    requests.push(script(alloc, 1000, 1000, None)?)?;
+    requests.push(script(alloc, 0, 1001, None)?)?;
+    requests.push(script(alloc, 1002, 0, None)?)?;
     let steps = List::new(alloc);
     let words = words(
         alloc,

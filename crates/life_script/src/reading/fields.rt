@@ -1,10 +1,13 @@
 //! What stands at the keys of an object.
 ghost use Rattle.std.specs.Prelude.{◌≡◌, codes, map, option_map};
 ghost use Rattle.serde_json.specs.View.{view};
-ghost use Rattle.life_script.specs.Reading.{has, number_at, status_at, items_in, items_at, is_string};
+ghost use Rattle.life_script.specs.Reading.{has, number_at, status_at, asks_at, is_null_at, items_in, items_at, is_string};
 
 use http::StatusCode;
 use serde_json::Value;
+
+/// The most asks of one poll that are read.
+const MAX_ASKS: u8 = 16;
 
 /// Whether an object has this key.
 pub fn has(value: &Value, key: &str) -> bool
@@ -27,6 +30,29 @@ pub fn status_at(value: &Value, key: &str) -> Option<StatusCode>
     let number = number_at(value, key)?;
     let number = u16::try_from(number).ok()?;
     StatusCode::from_u16(number).ok()
+}
+
+/// The number of asks at a key.
+pub fn asks_at(value: &Value, key: &str) -> Option<u8>
+    ensures { result ≡ asks_at key.now (view value.now) }
+{
+    let number = number_at(value, key)?;
+    let number = u8::try_from(number).ok()?;
+    if number <= MAX_ASKS {
+        Some(number)
+    } else {
+        None
+    }
+}
+
+/// Whether the value at a key is there, and is null.
+pub fn is_null_at(value: &Value, key: &str) -> bool
+    ensures { result ≡ is_null_at key.now (view value.now) }
+{
+    match value.get(key) {
+        Some(found) => found.is_null(),
+        None => false,
+    }
 }
 
 /// The items of an array.

@@ -29,8 +29,7 @@ pub fn read_limits(limits: &Value) -> Built<Limits>
 fn has_unbuilt_limit(limits: &Value) -> bool
     ensures { result ≡ has_unbuilt_limit (view limits.now) }
 {
-    has(limits, "byte_limit")
-        || has(limits, "gate_name")
+    has(limits, "gate_name")
         || has(limits, "gate_value")
         || has(limits, "classifier")
         || has(limits, "span_headers")
@@ -43,9 +42,11 @@ fn limits_of(value: &Value) -> Option<Limits>
     let timeout = number_at(value, "timeout")?;
     let timeout_status = status_at(value, "timeout_status")?;
     let body_deadline = number_at(value, "body_deadline")?;
+    let byte_limit = number_at(value, "byte_limit")?;
     Some(Limits {
         timeout,
         timeout_status,
         body_deadline,
+        byte_limit,
     })
 }

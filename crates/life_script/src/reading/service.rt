@@ -1,15 +1,15 @@
 //! What is read of the service: the scripts of its requests.
-ghost use Rattle.std.specs.Prelude.{◌≡◌, IfOk};
+ghost use Rattle.std.specs.Prelude.{◌≡◌, IfOk, option_map};
 ghost use Rattle.serde_json.specs.View.{view};
-ghost use Rattle.life_script.specs.Reading.{Bad, built, headers_at, text_at, chunk_part, body_item_part, reply_part, then_part, poll_item_part, has_unbuilt_request, script_part};
+ghost use Rattle.life_script.specs.Reading.{Bad, built, headers_at, text_at, chunk_part, body_item_part, message_part, reply_part, panic_part, then_part, poll_item_part, call_part, service_part, has_unbuilt_request, script_part};
 
 use crate::error::ReadError;
 use crate::headers::HeaderList;
-use crate::reading::fields::{has, is_string, status_at};
+use crate::reading::fields::{asks_at, has, is_null_at, is_string, status_at};
 use crate::reading::part::{Built, Part, read_all_at};
-use crate::scenario::{BodyItem, PollItem, Reply, Script, Then};
+use crate::scenario::{BodyItem, BodyItems, CallItem, PollItem, PollItems, Reply, Script, Then};
 use http::{HeaderName, HeaderValue};
-use life_core::{Octets, Text};
+use life_core::{Octets, PanicText, Text};
 use serde_json::Value;
 use std::alloc::Global;
 
@@ -78,6 +78,20 @@ impl Part for BodyItem {
     }
 }
 
+/// Reads the headers and the body of a request or a response.
+fn read_message(alloc: Global, value: &Value) -> Built<(HeaderList, BodyItems)>
+    ensures ok { IfOk result (λ message. message_part (view value.now) ≡ built (option_map (λ m. (m.0, m.1.items)) message)) }
+    ensures bad { result ≡ Err ReadError.BadScenario → message_part (view value.now) ≡ Bad }
+    ensures never { ¬ (result ≡ Err ReadError.NotBuilt) }
+{
+    let headers = read_headers_at(alloc, value, "headers")?;
+    let body = read_all_at::<BodyItem>(alloc, value, "body")?;
+    match (headers, body) {
+        (Some(headers), Some(body)) => Ok(Some((headers, body))),
+        _ => Ok(None),
+    }
+}
+
 /// Reads a response.
 fn read_reply(alloc: Global, value: &Value) -> Built<Reply>
     ensures ok { IfOk result (λ reply. reply_part (view value.now) ≡ built reply) }
@@ -90,16 +104,29 @@ fn read_reply(alloc: Global, value: &Value) -> Built<Reply>
     let Some(tells) = value.get("tells").and_then(Value::as_bool) else {
         return Err(ReadError::BadScenario);
     };
-    let headers = read_headers_at(alloc, value, "headers")?;
-    let body = read_all_at::<BodyItem>(alloc, value, "body")?;
-    match (headers, body) {
-        (Some(headers), Some(body)) => Ok(Some(Reply {
+    match read_message(alloc, value)? {
+        Some((headers, body)) => Ok(Some(Reply {
             status,
             headers,
             body,
             tells,
         })),
-        _ => Ok(None),
+        None => Ok(None),
+    }
+}
+
+/// Reads the text of a panic.
+fn read_panic(alloc: Global, value: &Value) -> Built<PanicText>
+    ensures ok { IfOk result (λ text. panic_part (view value.now) ≡ built text) }
+    ensures bad { result ≡ Err ReadError.BadScenario → panic_part (view value.now) ≡ Bad }
+    ensures never { ¬ (result ≡ Err ReadError.NotBuilt) }
+{
+    if is_null_at(value, "panic") {
+        return Ok(Some(PanicText::Unknown));
+    }
+    match read_text_at(alloc, value, "panic")? {
+        Some(text) => Ok(Some(PanicText::Known(text))),
+        None => Ok(None),
     }
 }
 
@@ -113,7 +140,10 @@ fn read_then(alloc: Global, value: &Value) -> Built<Then>
         return Ok(Some(Then::Pending));
     }
     if has(value, "panic") {
-        return Ok(None);
+        return match read_panic(alloc, value)? {
+            Some(text) => Ok(Some(Then::Panic(text))),
+            None => Ok(None),
+        };
     }
     if has(value, "fail") {
         return match read_text_at(alloc, value, "fail")? {
@@ -134,16 +164,48 @@ impl Part for PollItem {
     ghost reads = { poll_item_part };
 
     fn read(alloc: Global, value: &Value) -> Built<PollItem> {
+        let Some(asks) = asks_at(value, "asks") else {
+            return Err(ReadError::BadScenario);
+        };
         let Some(then) = value.get("then") else {
             return Err(ReadError::BadScenario);
         };
-        let Some(then) = read_then(alloc, then)? else {
-            return Ok(None);
-        };
-        if has(value, "asks") {
-            return Ok(None);
+        match read_then(alloc, then)? {
+            Some(then) => Ok(Some(PollItem { asks, then })),
+            None => Ok(None),
         }
-        Ok(Some(PollItem { then }))
+    }
+}
+
+/// Reads what is done at the call.
+fn read_call(alloc: Global, value: &Value) -> Built<CallItem>
+    ensures ok { IfOk result (λ call. call_part (view value.now) ≡ built call) }
+    ensures bad { result ≡ Err ReadError.BadScenario → call_part (view value.now) ≡ Bad }
+    ensures never { ¬ (result ≡ Err ReadError.NotBuilt) }
+{
+    if is_string(value, "serve") {
+        return Ok(Some(CallItem::Serve));
+    }
+    match read_panic(alloc, value)? {
+        Some(text) => Ok(Some(CallItem::Panic(text))),
+        None => Ok(None),
+    }
+}
+
+/// Reads what is done with a request: at the call, and poll by poll.
+fn read_service(alloc: Global, value: &Value) -> Built<(CallItem, PollItems)>
+    ensures ok { IfOk result (λ service. service_part (view value.now) ≡ built (option_map (λ s. (s.0, s.1.items)) service)) }
+    ensures bad { result ≡ Err ReadError.BadScenario → service_part (view value.now) ≡ Bad }
+    ensures never { ¬ (result ≡ Err ReadError.NotBuilt) }
+{
+    let Some(call) = value.get("call") else {
+        return Err(ReadError::BadScenario);
+    };
+    let call = read_call(alloc, call)?;
+    let polls = read_all_at::<PollItem>(alloc, value, "polls")?;
+    match (call, polls) {
+        (Some(call), Some(polls)) => Ok(Some((call, polls))),
+        _ => Ok(None),
     }
 }
 
@@ -151,17 +213,22 @@ impl Part for PollItem {
 fn has_unbuilt_request(value: &Value) -> bool
     ensures { result ≡ has_unbuilt_request (view value.now) }
 {
-    has(value, "method") || has(value, "uri") || has(value, "body") || has(value, "call")
+    has(value, "method") || has(value, "uri")
 }
 
 impl Part for Script {
     ghost reads = { script_part };
 
     fn read(alloc: Global, value: &Value) -> Built<Script> {
-        let headers = read_headers_at(alloc, value, "headers")?;
-        let polls = read_all_at::<PollItem>(alloc, value, "polls")?;
-        match (headers, polls, has_unbuilt_request(value)) {
-            (Some(headers), Some(polls), false) => Ok(Some(Script { headers, polls })),
+        let message = read_message(alloc, value)?;
+        let service = read_service(alloc, value)?;
+        match (message, service, has_unbuilt_request(value)) {
+            (Some((headers, body)), Some((call, polls)), false) => Ok(Some(Script {
+                headers,
+                body,
+                call,
+                polls,
+            })),
             _ => Ok(None),
         }
     }

@@ -4,7 +4,8 @@ use crate::answer::{Answer, Seen};
 use crate::headers::HeaderList;
 use http::{HeaderName, HeaderValue, StatusCode};
 use life_core::{
-    BodyError, DropKind, Event, Fields, Got, Latency, LatencyUnit, NoMemory, Octets, Shown, Text,
+    BodyError, DropKind, Event, Fields, Got, Handed, Latency, LatencyUnit, Level, NoMemory, Octets,
+    PanicText, Shown, Text,
 };
 use std::alloc::Global;
 use std::process::Abort;
@@ -104,6 +105,12 @@ fn answers(rt: HostRuntime) -> Result<(), Fail> {
         Answer::Fault(BodyError::Elapsed),
         "fault elapsed",
     )?;
+    shows(
+        &rt,
+        alloc,
+        Answer::Fault(BodyError::LengthLimit),
+        "fault length-limit",
+    )?;
     let cut = Text::copy(alloc, "cut")?;
     shows(
         &rt,
@@ -115,8 +122,15 @@ fn answers(rt: HostRuntime) -> Result<(), Fail> {
     Ok(())
 }
 
+/// Asserts that this is the text of an event.
+fn tells(rt: &impl Abort, alloc: Global, event: Event, want: &str) -> Got<()> {
+    let text = event_text(alloc, &event)?;
+    assert_eq!(rt; text.as_slice(), want.as_bytes(), "{want}");
+    Ok(())
+}
+
 #[test]
-fn events(rt: HostRuntime) -> Result<(), Fail> {
+fn drops(rt: HostRuntime) -> Result<(), Fail> {
     let alloc = rt.alloc();
     let latency = Latency {
         unit: LatencyUnit::Nanos,
@@ -130,8 +144,52 @@ fn events(rt: HostRuntime) -> Result<(), Fail> {
         ),
     ];
     for (what, want) in kinds {
-        let text = event_text(alloc, &Event::Dropped { what, latency })?;
-        assert_eq!(rt; text.as_slice(), want.as_bytes());
+        tells(&rt, alloc, Event::Dropped { what, latency }, want)?;
     }
+    Ok(())
+}
+
+#[test]
+fn panics(rt: HostRuntime) -> Result<(), Fail> {
+    let alloc = rt.alloc();
+    let levels = [
+        (Level::Error, "panic ERROR unknown"),
+        (Level::Warn, "panic WARN unknown"),
+        (Level::Info, "panic INFO unknown"),
+        (Level::Debug, "panic DEBUG unknown"),
+        (Level::Trace, "panic TRACE unknown"),
+    ];
+    for (level, want) in levels {
+        let text = PanicText::Unknown;
+        tells(&rt, alloc, Event::Panic { level, text }, want)?;
+    }
+    let text = PanicText::Known(Text::copy(alloc, "a \"b\"\n")?);
+    let level = Level::Error;
+    let want = r#"panic ERROR "a \"b\"\x0a""#;
+    tells(&rt, alloc, Event::Panic { level, text }, want)?;
+    Ok(())
+}
+
+/// Asserts that this is the text of what a service was handed.
+fn hands(rt: &impl Abort, alloc: Global, got: Handed, want: &str) -> Got<()> {
+    tells(rt, alloc, Event::Handed { got }, want)
+}
+
+#[test]
+fn handed(rt: HostRuntime) -> Result<(), Fail> {
+    let alloc = rt.alloc();
+    hands(&rt, alloc, Handed::Pending, "handed pending")?;
+    hands(&rt, alloc, Handed::End, "handed end")?;
+    hands(&rt, alloc, Handed::LengthLimit, "handed fault length-limit")?;
+    hands(&rt, alloc, Handed::Elapsed, "handed fault elapsed")?;
+    let cut = Handed::Inner(Text::copy(alloc, "cut \u{e9}")?);
+    hands(&rt, alloc, cut, r#"handed fault inner "cut \xc3\xa9""#)?;
+    let chunk = Handed::Chunk(Octets::copy(alloc, b"hello \xff")?);
+    hands(&rt, alloc, chunk, r#"handed data "hello \xff""#)?;
+    let sums = Handed::Trailers(fields(alloc, &[("X-Sum", "1"), ("x-sum", "2")])?);
+    let want = r#"handed trailers {x-sum: ["1", "2"]}"#;
+    hands(&rt, alloc, sums, want)?;
+    let none = Handed::Trailers(fields(alloc, &[])?);
+    hands(&rt, alloc, none, "handed trailers {}")?;
     Ok(())
 }

@@ -4,8 +4,8 @@ use crate::driving::drive;
 use http::StatusCode;
 use life_core::{Got, List, Octets};
 use life_script::{
-    Act, BodyItem, DriveError, HeaderList, Limits, PollItem, PollItems, Reply, Scenario, Script,
-    Step, Then,
+    Act, BodyItem, CallItem, DriveError, HeaderList, Limits, PollItem, PollItems, Reply, Scenario,
+    Script, Step, Then,
 };
 use std::alloc::Global;
 use std::test::Fail;
@@ -23,11 +23,14 @@ fn script(alloc: Global, status: Option<StatusCode>) -> Got<Script> {
             tells: true,
         };
         polls.push(PollItem {
+            asks: 0,
             then: Then::Respond(reply),
         })?;
     }
     Ok(Script {
         headers: HeaderList::new(alloc),
+        body: List::new(alloc),
+        call: CallItem::Serve,
         polls,
     })
 }
@@ -54,6 +57,7 @@ fn text_of(alloc: Global, scenario: &Scenario) -> Result<Octets, DriveError> {
         timeout: 10,
         timeout_status: StatusCode::REQUEST_TIMEOUT,
         body_deadline: 20,
+        byte_limit: 5,
     };
     let report = drive(alloc, &limits, scenario)?;
     match report_text(alloc, &report) {

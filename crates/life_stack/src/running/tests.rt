@@ -8,14 +8,14 @@ use std::test::Fail;
 
 /// A request that is answered with status 200 and a body of one piece.
 const HI: &str =
-    r#"{"headers":[],"polls":[{"then":{"respond":{"status":200,"headers":[],"body":[{"data":"hi"}],"tells":true}}}]}"#;
+    r#"{"headers":[],"body":[],"call":"serve","polls":[{"asks":0,"then":{"respond":{"status":200,"headers":[],"body":[{"data":"hi"}],"tells":true}}}]}"#;
 
 /// A request that is answered with status 200 and no body.
 const READY: &str =
-    r#"{"headers":[],"polls":[{"then":{"respond":{"status":200,"headers":[],"body":[],"tells":true}}}]}"#;
+    r#"{"headers":[],"body":[],"call":"serve","polls":[{"asks":0,"then":{"respond":{"status":200,"headers":[],"body":[],"tells":true}}}]}"#;
 
 /// A request that is never answered.
-const SILENT: &str = r#"{"headers":[],"polls":[]}"#;
+const SILENT: &str = r#"{"headers":[],"body":[],"call":"serve","polls":[]}"#;
 
 /// Steps that read that body to its end.
 const READ: &str = r#"[[0,0,"call"],[3,0,"poll"],[4,0,"poll"],[5,0,"drop"]]"#;
@@ -55,9 +55,9 @@ fn strings(alloc: Global, words: &[&str]) -> Got<Vec<String>> {
     Ok(strings)
 }
 
-/// A scenario with these requests, a timeout of 10 and a deadline of 20.
+/// A scenario with these requests, a timeout of 10, a deadline of 20 and a limit of 5 bytes.
 fn scenario(alloc: Global, requests: &str, steps: &str, end: u64) -> Got<String> {
-    let limits = r#"{"timeout":10,"timeout_status":408,"body_deadline":20}"#;
+    let limits = r#"{"timeout":10,"timeout_status":408,"body_deadline":20,"byte_limit":5}"#;
     let text = format!(in alloc;
         "{{\"version\":1,\"limits\":{limits},\"requests\":[{requests}],\"steps\":{steps},\"end\":{end}}}"
     )?;
@@ -151,7 +151,7 @@ fn driven_scenarios(rt: HostRuntime) -> Result<(), Fail> {
         ),
         (
             "two requests",
-            r#"{"headers":[],"polls":[{"then":{"respond":{"status":200,"headers":[],"body":[],"tells":true}}}]},{"headers":[],"polls":[{"then":{"respond":{"status":200,"headers":[],"body":[],"tells":true}}}]}"#,
+            r#"{"headers":[],"body":[],"call":"serve","polls":[{"asks":0,"then":{"respond":{"status":200,"headers":[],"body":[],"tells":true}}}]},{"headers":[],"body":[],"call":"serve","polls":[{"asks":0,"then":{"respond":{"status":200,"headers":[],"body":[],"tells":true}}}]}"#,
             r#"[[0,0,"call"],[1,1,"call"],[2,1,"poll"],[3,0,"poll"]]"#,
             3,
             "step 0 at 0 request 0 call: called\nstep 1 at 1 request 1 call: called\nstep 2 at 2 request 1 poll: response 200 ended {x-request-id: [\"1\"]}\nstep 3 at 3 request 0 poll: response 200 ended {x-request-id: [\"0\"]}\ntotal: 2 requests, 4 steps, end 3\n",
@@ -164,9 +164,9 @@ fn driven_scenarios(rt: HostRuntime) -> Result<(), Fail> {
 #[test]
 fn early_drops(rt: HostRuntime) -> Result<(), Fail> {
     let waits =
-        r#"{"headers":[],"polls":[{"then":{"respond":{"status":201,"headers":[],"body":["pending"],"tells":false}}}]}"#;
+        r#"{"headers":[],"body":[],"call":"serve","polls":[{"asks":0,"then":{"respond":{"status":201,"headers":[],"body":["pending"],"tells":false}}}]}"#;
     let tells =
-        r#"{"headers":[],"polls":[{"then":{"respond":{"status":201,"headers":[],"body":["pending"],"tells":true}}}]}"#;
+        r#"{"headers":[],"body":[],"call":"serve","polls":[{"asks":0,"then":{"respond":{"status":201,"headers":[],"body":["pending"],"tells":true}}}]}"#;
     let rows = [
         (
             "dropped while its body waits",
@@ -196,11 +196,12 @@ fn early_drops(rt: HostRuntime) -> Result<(), Fail> {
 
 #[test]
 fn faults_and_headers(rt: HostRuntime) -> Result<(), Fail> {
-    let fails = r#"{"headers":[],"polls":[{"then":{"fail":"boom"}}]}"#;
+    let fails =
+        r#"{"headers":[],"body":[],"call":"serve","polls":[{"asks":0,"then":{"fail":"boom"}}]}"#;
     let faults =
-        r#"{"headers":[],"polls":[{"then":{"respond":{"status":200,"headers":[],"body":[{"fault":"bad"}],"tells":false}}}]}"#;
+        r#"{"headers":[],"body":[],"call":"serve","polls":[{"asks":0,"then":{"respond":{"status":200,"headers":[],"body":[{"fault":"bad"}],"tells":false}}}]}"#;
     let trailers =
-        r#"{"headers":[],"polls":[{"then":{"respond":{"status":200,"headers":[["x-request-id","foo"],["b","2"],["B","1"]],"body":[{"trailers":[["b","2"],["a","1"]]}],"tells":true}}}]}"#;
+        r#"{"headers":[],"body":[],"call":"serve","polls":[{"asks":0,"then":{"respond":{"status":200,"headers":[["x-request-id","foo"],["b","2"],["B","1"]],"body":[{"trailers":[["b","2"],["a","1"]]}],"tells":true}}}]}"#;
     let rows = [
         (
             "a service error",
@@ -218,14 +219,14 @@ fn faults_and_headers(rt: HostRuntime) -> Result<(), Fail> {
         ),
         (
             "an id of the service's own",
-            r#"{"headers":[],"polls":[{"then":{"respond":{"status":200,"headers":[["x-request-id","foo"]],"body":[],"tells":true}}}]}"#,
+            r#"{"headers":[],"body":[],"call":"serve","polls":[{"asks":0,"then":{"respond":{"status":200,"headers":[["x-request-id","foo"]],"body":[],"tells":true}}}]}"#,
             r#"[[0,0,"call"],[1,0,"poll"]]"#,
             1,
             "step 0 at 0 request 0 call: called\nstep 1 at 1 request 0 poll: response 200 ended {x-request-id: [\"foo\"]}\ntotal: 1 requests, 2 steps, end 1\n",
         ),
         (
             "an id that the request brings",
-            r#"{"headers":[["a","1"],["X-Request-Id","bar"],["x-request-id","baz"]],"polls":[{"then":{"respond":{"status":200,"headers":[],"body":[],"tells":true}}}]}"#,
+            r#"{"headers":[["a","1"],["X-Request-Id","bar"],["x-request-id","baz"]],"body":[],"call":"serve","polls":[{"asks":0,"then":{"respond":{"status":200,"headers":[],"body":[],"tells":true}}}]}"#,
             r#"[[0,0,"call"],[1,0,"poll"]]"#,
             1,
             "step 0 at 0 request 0 call: called\nstep 1 at 1 request 0 poll: response 200 ended {x-request-id: [\"bar\"]}\ntotal: 1 requests, 2 steps, end 1\n",
@@ -236,6 +237,110 @@ fn faults_and_headers(rt: HostRuntime) -> Result<(), Fail> {
             r#"[[0,0,"call"],[1,0,"poll"],[2,0,"poll"]]"#,
             2,
             "step 0 at 0 request 0 call: called\nstep 1 at 1 request 0 poll: response 200 open {b: [\"2\", \"1\"], x-request-id: [\"foo\"]}\nstep 2 at 2 request 0 poll: trailers {a: [\"1\"], b: [\"2\"]} ended\ntotal: 1 requests, 3 steps, end 2\n",
+        ),
+    ];
+    report(&rt, &rows)?;
+    Ok(())
+}
+
+/// Headers of a plain text with the id of request 0.
+const TEXT: &str = "{content-type: [\"text/plain; charset=utf-8\"], x-request-id: [\"0\"]}";
+
+#[test]
+fn bodies_of_requests(rt: HostRuntime) -> Result<(), Fail> {
+    let large = r#"{"headers":[["content-length","6"]],"body":[],"call":"serve","polls":[]}"#;
+    let longer =
+        r#"{"headers":[["content-length","+5"]],"body":[{"data":"abc"},{"data":"de"},{"data":"f"}],"call":"serve","polls":[{"asks":3,"then":{"respond":{"status":200,"headers":[],"body":[],"tells":true}}}]}"#;
+    let one_piece =
+        r#"{"headers":[],"body":[{"data":"abcdef"}],"call":"serve","polls":[{"asks":2,"then":"pending"}]}"#;
+    let two_told =
+        r#"{"headers":[["content-length","2"]],"body":[{"data":"ab"},{"data":"c"}],"call":"serve","polls":[{"asks":2,"then":"pending"}]}"#;
+    let once = r#"[[0,0,"call"],[1,0,"poll"]]"#;
+    let text = format!(in rt.alloc();
+        "step 0 at 0 request 0 call: called\nstep 1 at 1 request 0 poll: response 413 open {TEXT}\nstep 2 at 2 request 0 poll: data \"length limit exceeded\" ended\ntotal: 1 requests, 3 steps, end 2\n"
+    )?;
+    let rows = [
+        (
+            "a length above the limit",
+            large,
+            r#"[[0,0,"call"],[1,0,"poll"],[2,0,"poll"]]"#,
+            2,
+            text.as_str(),
+        ),
+        (
+            "more than the length that is told",
+            longer,
+            once,
+            1,
+            "step 0 at 0 request 0 call: called\nstep 1 at 1 request 0 poll: response 200 ended {x-request-id: [\"0\"]}\n  handed data \"abc\"\n  handed data \"de\"\n  handed fault length-limit\ntotal: 1 requests, 2 steps, end 1\n",
+        ),
+        (
+            "more than the limit in one piece",
+            one_piece,
+            once,
+            1,
+            "step 0 at 0 request 0 call: called\nstep 1 at 1 request 0 poll: pending\n  handed fault length-limit\n  handed end\nend at 1 request 0\n  dropped future latency 1 ns\ntotal: 1 requests, 2 steps, end 1\n",
+        ),
+        (
+            "a length below the limit",
+            two_told,
+            once,
+            1,
+            "step 0 at 0 request 0 call: called\nstep 1 at 1 request 0 poll: pending\n  handed data \"ab\"\n  handed fault length-limit\nend at 1 request 0\n  dropped future latency 1 ns\ntotal: 1 requests, 2 steps, end 1\n",
+        ),
+    ];
+    report(&rt, &rows)?;
+    Ok(())
+}
+
+#[test]
+fn all_that_is_handed(rt: HostRuntime) -> Result<(), Fail> {
+    let rows = [
+        (
+            "over two polls",
+            r#"{"headers":[],"body":[{"trailers":[["b","2"],["a","1"]]},"pending",{"fault":"bad"},{"data":"x"}],"call":"serve","polls":[{"asks":1,"then":"pending"},{"asks":4,"then":{"fail":"boom"}}]}"#,
+            r#"[[0,0,"call"],[1,0,"poll"],[2,0,"poll"]]"#,
+            2,
+            "step 0 at 0 request 0 call: called\nstep 1 at 1 request 0 poll: pending\n  handed trailers {a: [\"1\"], b: [\"2\"]}\nstep 2 at 2 request 0 poll: error \"boom\"\n  handed pending\n  handed fault inner \"bad\"\n  handed data \"x\"\n  handed end\ntotal: 1 requests, 3 steps, end 2\n",
+        ),
+        (
+            "nothing at a poll that is due",
+            r#"{"headers":[],"body":[{"data":"x"}],"call":"serve","polls":[{"asks":1,"then":"pending"}]}"#,
+            r#"[[0,0,"call"],[10,0,"poll"]]"#,
+            10,
+            "step 0 at 0 request 0 call: called\nstep 1 at 10 request 0 poll: response 408 ended {}\ntotal: 1 requests, 2 steps, end 10\n",
+        ),
+    ];
+    report(&rt, &rows)?;
+    Ok(())
+}
+
+#[test]
+fn panics(rt: HostRuntime) -> Result<(), Fail> {
+    let at_call =
+        r#"{"headers":[],"body":[],"call":{"panic":"boom"},"polls":[{"asks":1,"then":"pending"}]}"#;
+    let at_poll =
+        r#"{"headers":[],"body":[],"call":"serve","polls":[{"asks":0,"then":{"panic":null}}]}"#;
+    let first = format!(in rt.alloc();
+        "step 0 at 0 request 0 call: called\nstep 1 at 1 request 0 poll: response 500 open {TEXT}\n  panic ERROR \"boom\"\nstep 2 at 2 request 0 poll: data \"Service panicked\" ended\ntotal: 1 requests, 3 steps, end 2\n"
+    )?;
+    let second = format!(in rt.alloc();
+        "step 0 at 0 request 0 call: called\nstep 1 at 1 request 0 poll: response 500 open {TEXT}\n  panic ERROR unknown\nend at 1 request 0\n  dropped body 500 latency 1 ns\ntotal: 1 requests, 2 steps, end 1\n"
+    )?;
+    let rows = [
+        (
+            "in the call",
+            at_call,
+            r#"[[0,0,"call"],[1,0,"poll"],[2,0,"poll"]]"#,
+            2,
+            first.as_str(),
+        ),
+        (
+            "at a poll",
+            at_poll,
+            r#"[[0,0,"call"],[1,0,"poll"]]"#,
+            1,
+            second.as_str(),
         ),
     ];
     report(&rt, &rows)?;
@@ -273,11 +378,11 @@ fn scenarios_that_are_not_driven(rt: HostRuntime) -> Result<(), Fail> {
         always_ends_with(&rt, name, text.as_bytes(), (Status::Refused, want))?;
     }
     let good = scenario(alloc, HI, READ, 5)?;
-    let body = good.replacen(alloc, "\"polls\"", "\"body\":[],\"polls\"", 1)?;
+    let method = good.replacen(alloc, "\"polls\"", "\"method\":\"GET\",\"polls\"", 1)?;
     let cut = good.as_bytes();
     let cut = &cut[..cut.len().min(20)];
     let rows = [
-        ("a request's body", body.as_bytes(), "not built\n"),
+        ("a request's method", method.as_bytes(), "not built\n"),
         ("a cut text", cut, "bad scenario\n"),
     ];
     for (name, input, want) in rows {

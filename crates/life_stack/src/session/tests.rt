@@ -4,7 +4,7 @@ use crate::driving::drive;
 use http::{HeaderName, HeaderValue, StatusCode};
 use life_core::{Got, List};
 use life_script::{
-    Act, DriveError, HeaderList, Limits, PollItem, Reply, Scenario, Script, Step, Then,
+    Act, CallItem, DriveError, HeaderList, Limits, PollItem, Reply, Scenario, Script, Step, Then,
     answer_text, event_text,
 };
 use std::alloc::Global;
@@ -18,6 +18,7 @@ fn limits() -> Limits {
         timeout: LIMITS.0,
         timeout_status: StatusCode::REQUEST_TIMEOUT,
         body_deadline: LIMITS.1,
+        byte_limit: 5,
     }
 }
 
@@ -25,6 +26,7 @@ fn limits() -> Limits {
 fn ready(alloc: Global) -> Got<Script> {
     let mut polls = List::new(alloc);
     polls.push(PollItem {
+        asks: 0,
         then: Then::Respond(Reply {
             status: StatusCode::OK,
             headers: HeaderList::new(alloc),
@@ -34,6 +36,8 @@ fn ready(alloc: Global) -> Got<Script> {
     })?;
     Ok(Script {
         headers: HeaderList::new(alloc),
+        body: List::new(alloc),
+        call: CallItem::Serve,
         polls,
     })
 }

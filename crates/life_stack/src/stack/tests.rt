@@ -4,13 +4,14 @@ ghost use Rattle.life_stack.specs.Driven.{BodyMay, StackMay};
 use super::*;
 use http::StatusCode;
 use life_core::{List, Log};
-use life_script::{HeaderList, PollItem, Reply, Script, Then, check};
+use life_script::{CallItem, HeaderList, PollItem, Reply, Script, Then, check};
 use std::test::Fail;
 
 /// One request that is answered with status 200 at its first poll.
 fn scenario(alloc: Global) -> Got<Scenario> {
     let mut polls = List::new(alloc);
     polls.push(PollItem {
+        asks: 0,
         then: Then::Respond(Reply {
             status: StatusCode::OK,
             headers: HeaderList::new(alloc),
@@ -21,6 +22,8 @@ fn scenario(alloc: Global) -> Got<Scenario> {
     let mut requests = List::new(alloc);
     requests.push(Script {
         headers: HeaderList::new(alloc),
+        body: List::new(alloc),
+        call: CallItem::Serve,
         polls,
     })?;
     Ok(Scenario {
@@ -73,6 +76,7 @@ fn call_by_call(rt: HostRuntime) -> Result<(), Fail> {
         timeout: 10,
         timeout_status: StatusCode::REQUEST_TIMEOUT,
         body_deadline: 20,
+        byte_limit: 5,
     };
     let scenario = scenario(alloc)?;
     check(&scenario)?;

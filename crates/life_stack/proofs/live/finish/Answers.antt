@@ -1,4 +1,4 @@
-use Rattle.std.proofs.Common.{◌≡◌, ◌++◌, ap, ◌∙◌, append-nil, sym}
+use Rattle.std.proofs.Common.{◌++◌, ap, ◌∙◌, append-nil, sym}
 use Rattle.life_stack.proofs.Failing.{gone_end}
 use Rattle.life_stack.proofs.live.finish.Goals as goal
 

@@ -1,9 +1,8 @@
-use Rattle.std.proofs.Common.{◌≡◌, ◌<◌, ◌≤◌, List, length, Ok, Some, ap, ◌∙◌, subst, sym}
+use Rattle.std.proofs.Common.{◌≡◌, ◌<◌, ◌≤◌, List, length, Some, ap, ◌∙◌, subst, sym}
 use Rattle.std.proofs.lemmas.Option.{slice_get-get_or}
 use Rattle.std.specs.Prelude.{slice_get}
 use Rattle.life_script.specs.declared.scenario.Step.{Step}
-use Rattle.life_script.specs.ScriptView.{ScriptView}
-use Rattle.life_stack.specs.SessionView.{RunsOn, SessionView}
+use Rattle.life_stack.specs.SessionView.{SessionView}
 use Rattle.life_stack.proofs.Places.{found, set_length}
 use Rattle.life_stack.proofs.Runs.{some_is}
 use Rattle.life_stack.proofs.Sessions.{session_at, session_may, session_next, session_room, session_within}
