@@ -138,6 +138,7 @@ pub fn call_stack<L: Recorder>(
     ensures future_may { IfOk result FutureMay }
     ensures context { SameContext L.place cx.old cx.new }
 {
+    // Names a type inside of the stack's body, which the proof of this call has to see.
     let _ = PhantomData::<Infallible>;
     <DriveStack as Service<Request<ScriptBody, Ext>, L>>::call(stack, request, cx)
 }
@@ -157,6 +158,7 @@ pub fn poll_future<L: Recorder>(
     ensures may { FutureMay future.new }
     ensures context { SameContext L.place cx.old cx.new }
 {
+    // Names a type inside of the stack's body, which the proof of this call has to see.
     let _ = PhantomData::<Infallible>;
     future.poll(cx)
 }
@@ -175,6 +177,7 @@ pub fn abandon_future<L: Recorder>(future: DriveFuture<L>, cx: &mut Cx<'_, L>) -
         → IfErr result (λ error. (L.recorded cx.old.rec.now).spare ≡ 0) }
     ensures context { SameContext L.place cx.old cx.new }
 {
+    // Names a type inside of the stack's body, which the proof of this call has to see.
     let _ = PhantomData::<Infallible>;
     future.abandon(cx)
 }

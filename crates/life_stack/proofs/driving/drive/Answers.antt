@@ -1,8 +1,7 @@
 use Rattle.std.proofs.Common.{◌≡◌, ◌≤◌, ℕ, Some, subst, sym}
 use Rattle.std.specs.Prelude.{slice_get}
-use Rattle.life_script.specs.ScriptView.{ScriptView, ScenarioView}
+use Rattle.life_script.specs.ScriptView.{ScriptView}
 use Rattle.life_script.specs.ToldView.{ToldView}
-use Rattle.life_script.specs.declared.scenario.Limits.{Limits}
 use Rattle.life_stack.specs.Handing.{room}
 use Rattle.life_stack.specs.Ident.{numbered}
 use Rattle.life_stack.specs.Own.{own, dropped_at, drop_time}
