@@ -122,7 +122,7 @@ fn noted(rt: &impl Abort, log: &mut Log) -> Option<(u16, u64)> {
             };
             Some((status, latency.nanos))
         }
-        None => None,
+        Some(_) | None => None,
     }
 }
 
