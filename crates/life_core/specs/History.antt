@@ -1,5 +1,5 @@
 -- How a future or a body answers over its polls: a function of the times of its polls so far, the last one first.
-use Rattle.std.specs.Prelude.{◌≡◌, ℕ, ◌+◌, ◌≤◌, ◌<◌, List, [], ◌∷◌, ◌++◌, length, Bool, Option, Result, Ok, Err, ⊤}
+use Rattle.std.specs.Prelude.{◌≡◌, ℕ, ◌+◌, ◌≤◌, ◌<◌, List, [], ◌∷◌, ◌++◌, length, Bool, true, false, Option, Result, Ok, Err, ⊤}
 use Rattle.http_body.specs.declared.frame.Frame.{Frame}
 use Rattle.life_core.specs.Meaning.{Polls, Leaves, Frames, Calls}
 use Rattle.life_core.specs.Moment.{Moment}
@@ -46,6 +46,20 @@ pub record FutureHistory (H P X : Type 0) : Type 0 where
   pub says : List ℕ → ℕ → Said H P X
   pub events : List ℕ → ℕ → List Event
   pub left : List ℕ → ℕ → List Event
+
+-- a response at the first poll, with nothing recorded
+abbrev pub answers_at_once : {H P X : Type 0} → H → P → FutureHistory H P X
+answers_at_once head p = record { says = λ past t. Gives head p; events = λ past t. []; left = λ past t. [] }
+
+-- this response at once where the layer answers in the inner value's place, else the inner answers
+abbrev pub answers_instead : {H P X : Type 0} → Bool → H → P → FutureHistory H P X → FutureHistory H P X
+answers_instead true head p h = answers_at_once head p
+answers_instead false head p h = h
+
+-- what the call records: nothing where the layer answers in the inner value's place
+abbrev pub records_unless : Bool → List Event → List Event
+records_unless true es = []
+records_unless false es = es
 
 -- where a future is: polled at these times and waiting, or it has answered
 pub data Where : Type 0 where

@@ -74,6 +74,9 @@ fn kept_texts(rt: HostRuntime) -> Result<(), Fail> {
     let alloc = rt.alloc();
     let text = Text::copy(alloc, "hi")?;
     assert_eq!(rt; text.twin(alloc)?.as_str(), "hi");
+    for (other, same) in [("hi", true), ("Hi", false), ("hi ", false), ("", false)] {
+        assert_eq!(rt; text == Text::copy(alloc, other)?, same, "{other}");
+    }
     let octets = Octets::copy(alloc, b"hi")?;
     assert_eq!(rt; octets.twin(alloc)?.as_slice(), b"hi".as_slice());
     let octets = Octets::from_vec(vec![in alloc; 1, 2]?);

@@ -5,7 +5,7 @@ use Rattle.http_body.specs.declared.frame.Frame.{Frame}
 use Rattle.life_core.proofs.Growth.{grew_none}
 use Rattle.life_core.specs.Boxed.{NeverFaults}
 use Rattle.life_core.specs.Full.{FullFrames, LeavesNothing, full_ends}
-use Rattle.life_core.specs.History.{Latest, Grew, BodyHistory, BodyFollows, FrameSteps, FutureHistory, FutureFollows, Said, Waits, Gives, Fails, Where, Waiting, Answered, Matches, where_after, left_at, ServiceFollows}
+use Rattle.life_core.specs.History.{Latest, Grew, BodyHistory, BodyFollows, FrameSteps, FutureHistory, FutureFollows, Said, Waits, Gives, Fails, Where, Waiting, Answered, Matches, where_after, left_at, ServiceFollows, answers_instead, records_unless}
 use Rattle.life_core.specs.Meaning.{Polls, Leaves, Frames, Calls, LeavesIfAny}
 use Rattle.life_core.specs.Message.{IsText}
 use Rattle.life_core.specs.Moment.{Moment}
@@ -21,7 +21,7 @@ use Rattle.life_core.specs.declared.poll.Poll.TheVariants.{Ready, Pending}
 use Rattle.life_core.specs.declared.recorder.NoMemory.{NoMemory}
 use Rattle.life_limit.specs.Limit.{LimitCalls, LimitPolls, LimitLeaves, InnerBody, InnerReplies, RepliesWithin, SaysTooLarge, LimitRefuses, LimitPasses, is_large, limited}
 use Rattle.life_limit.specs.LimitBody.{LimitBodyFrames, LimitBodyLeaves, limit_body_ends}
-use Rattle.life_limit.specs.Stands.{LimitBodyStands, LimitStands, HeldUnless, LimitServes, AsksBounded, limit_history, limit_events}
+use Rattle.life_limit.specs.Stands.{LimitBodyStands, LimitStands, HeldUnless, LimitServes, AsksBounded}
 use Rattle.life_limit.specs.declared.limit.body.ResponseBody.{ResponseBody}
 use Rattle.life_limit.specs.declared.limit.body.ResponseBody.TheVariants.{PayloadTooLarge, Body}
 use Rattle.life_limit.specs.declared.limit.future.ResponseFuture.{ResponseFuture}
@@ -102,8 +102,8 @@ module _ {H P F B X E D : Type 0} (polls : Polls F (Result (Response B X) E)) (l
   -- by whether the request was too large, and what the future holds before and after
   abbrev Steps : Bool → List ℕ → Recorded → Moment → Poll (Result (Response (ResponseBody B) X) E) → Option F → Recorded → Type 0
   Steps large past was m a g now =
-      Matches Heads BS ((limit_history large large_head plan h).says past m.now) a
-      × Grew was now ((limit_history large large_head plan h).events past m.now)
+      Matches Heads BS ((answers_instead large large_head plan h).says past m.now) a
+      × Grew was now ((answers_instead large large_head plan h).events past m.now)
       × HeldUnless large Stands g (where_after past m.now a)
 
   step : (large : Bool) (past : List ℕ) (f g : Option F) (was : Recorded) (m : Moment) (a : Poll (Result (Response (ResponseBody B) X) E)) (now : Recorded) →
@@ -116,7 +116,7 @@ module _ {H P F B X E D : Type 0} (polls : Polls F (Result (Response B X) E)) (l
   step false past (Some f) (Some g) was m a now s d = polled past f g was m a now s d
 
   left_by : (large : Bool) (w : Where) (f : Option F) (was : Recorded) (m : Moment) (u : Unit) (now : Recorded) →
-      HeldUnless large Stands f w → LeavesIfAny leaves f was m (Ok u) now → Grew was now (left_at (limit_history large large_head plan h) w m.now)
+      HeldUnless large Stands f w → LeavesIfAny leaves f was m (Ok u) now → Grew was now (left_at (answers_instead large large_head plan h) w m.now)
   left_by true (Waiting past) None was m u now s d = grew_none was now d.1
   left_by true Answered None was m u now s d = grew_none was now d.1
   left_by true w (Some f) was m u now s d = elim s [ ]
@@ -124,14 +124,14 @@ module _ {H P F B X E D : Type 0} (polls : Polls F (Result (Response B X) E)) (l
   left_by false w (Some f) was m u now s d = inner.left w f was m u now s d
 
   refused_by : (large : Bool) (w : Where) (f : Option F) (was : Recorded) (m : Moment) (e : NoMemory) (now : Recorded) →
-      HeldUnless large Stands f w → LeavesIfAny leaves f was m (Err e) now → was.spare < length (left_at (limit_history large large_head plan h) w m.now)
+      HeldUnless large Stands f w → LeavesIfAny leaves f was m (Err e) now → was.spare < length (left_at (answers_instead large large_head plan h) w m.now)
   refused_by true w None was m e now s d = absurd (cc d.0)
   refused_by true w (Some f) was m e now s d = elim s [ ]
   refused_by false w None was m e now s d = elim s [ ]
   refused_by false w (Some f) was m e now s d = inner.refused w f was m e now s d
 
   -- by whether the request was too large
-  pub limit_follows : (large : Bool) → FutureFollows (LimitPolls polls is_ext) (LimitLeaves leaves) Heads (LimitStands large Stands) BS (limit_history large large_head plan h)
+  pub limit_follows : (large : Bool) → FutureFollows (LimitPolls polls is_ext) (LimitLeaves leaves) Heads (LimitStands large Stands) BS (answers_instead large large_head plan h)
   limit_follows large = record {
     poll = λ past f was m a new now s d. let r = step large past f.inner new.inner was m a now s d in record { answer = r.0; grew = r.1; stands = r.2 };
     left = λ w f was m u now s d. left_by large w f.inner was m u now s d;
@@ -170,12 +170,12 @@ module _ {S B X F : Type 0} (calls : Calls S (Request (Limited B) X) F) (leaves 
   large_is large limit s req k e = ap (λ l. is_large l req) k.limit_is ∙ e
 
   gives : (large : Bool) (limit : ℕ) (s : RequestBodyLimit S) (req : Request B X) (was : Recorded) (m : Moment) (f : ResponseFuture F) (new : RequestBodyLimit S) (now : Recorded) →
-      AsksBounded large limit Asks req → LimitServes limit Serves s → LimitCalls calls leaves s req was m (Ok f) new now → Given large limit (limit_events large es) new m f was now
+      AsksBounded large limit Asks req → LimitServes limit Serves s → LimitCalls calls leaves s req was m (Ok f) new now → Given large limit (records_unless large es) new m f was now
   gives true limit s req was m f new now q k c = refuses limit s req was m f new now k (c.above (large_is true limit s req k q.0))
   gives false limit s req was m f new now q k c = passes limit s req was m f new now k (q.1 refl) (c.within (large_is false limit s req k q.0))
 
   -- by whether the requests are too large
-  pub limit_serves : (large : Bool) (limit : ℕ) → ServiceFollows (LimitCalls calls leaves) (AsksBounded large limit Asks) (LimitServes limit Serves) (λ t. LimitStands large (Stands t)) (limit_events large es)
+  pub limit_serves : (large : Bool) (limit : ℕ) → ServiceFollows (LimitCalls calls leaves) (AsksBounded large limit Asks) (LimitServes limit Serves) (λ t. LimitStands large (Stands t)) (records_unless large es)
   limit_serves large limit = record {
     call = λ s req was m f new now q k c. gives large limit s req was m f new now q k c;
     refused = λ s req was m e new now k c. stays limit s req was m e new now k c;

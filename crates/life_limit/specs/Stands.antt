@@ -32,20 +32,6 @@ HeldUnless false Stands (Some f) w = Stands f w
 abbrev pub LimitStands : {F : Type 0} → Bool → (F → Where → Type 0) → ResponseFuture F → Where → Type 0
 LimitStands large Stands f w = HeldUnless large Stands f.inner w
 
--- a response at the first poll, with nothing recorded
-abbrev pub answers_at_once : {H P X : Type 0} → H → P → FutureHistory H P X
-answers_at_once head p = record { says = λ past t. Gives head p; events = λ past t. []; left = λ past t. [] }
-
--- the refusal where the request was too large, else the inner answers
-abbrev pub limit_history : {H P X : Type 0} → Bool → H → P → FutureHistory H P X → FutureHistory H P X
-limit_history true head p h = answers_at_once head p
-limit_history false head p h = h
-
--- what the call records: nothing where the request is too large
-abbrev pub limit_events : Bool → List Event → List Event
-limit_events true es = []
-limit_events false es = es
-
 -- a request that is too large, or one that the inner service takes with its body bounded
 abbrev pub AsksBounded : {B X : Type 0} → Bool → ℕ → (Request (Limited B) X → Type 0) → Request B X → Type 0
 AsksBounded large limit Asks req = (is_large limit req ≡ large) × (large ≡ false → Asks (limited limit req))

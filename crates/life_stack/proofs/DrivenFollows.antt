@@ -4,7 +4,7 @@ use Rattle.std.proofs.lemmas.Bool.{le-leb}
 use Rattle.std.specs.Prelude.{codes, slice_get, ⊤}
 use Rattle.std.specs.declared.convert.Infallible.{Infallible}
 use Rattle.life_core.specs.Full.{FullFrames, LeavesNothing, full_ends}
-use Rattle.life_core.specs.History.{BodyFollows, FutureFollows, FutureHistory, Grew, Matches, ServiceFollows, Where, Waiting, Answered, left_at}
+use Rattle.life_core.specs.History.{BodyFollows, FutureFollows, FutureHistory, Grew, Matches, ServiceFollows, Where, Waiting, Answered, answers_instead, left_at, records_unless}
 use Rattle.life_core.specs.Limited.{LimitedLeaves}
 use Rattle.life_core.specs.Meaning.{Leaves, Polls}
 use Rattle.life_core.specs.Message.{IsBare, IsText}
@@ -25,7 +25,7 @@ use Rattle.life_drop.proofs.NoteFollows.{note_records, note_future, note_start, 
 use Rattle.life_head.specs.Ids.{NumberMakes, x_request_id_name}
 use Rattle.life_head.specs.declared.request_id.propagating.PropagateRequestIdResponseFuture.{PropagateRequestIdResponseFuture}
 use Rattle.life_head.proofs.RequestIdFollows.{propagate_follows, propagate_keeps, propagate_serves, set_serves}
-use Rattle.life_limit.specs.Stands.{AsksBounded, catch_history, limit_events, limit_history, with_panic, caught}
+use Rattle.life_limit.specs.Stands.{AsksBounded, catch_history, with_panic, caught}
 use Rattle.life_limit.specs.declared.limit.body.ResponseBody.TheVariants.{PayloadTooLarge, Body}
 use Rattle.life_limit.proofs.CatchFollows.{catch_follows, catch_keeps, catch_serves, panic_handler_follows}
 use Rattle.life_limit.proofs.LimitFollows.{limit_body_follows, limit_follows, limit_keeps, limit_serves}
@@ -123,7 +123,7 @@ abbrev panic_head : Head
 panic_head = (panic_reply.status, panic_reply.headers)
 
 abbrev guarded_history : Bool → CallItem → ℕ → ScriptView → FutureHistory Head BodyPlan (List ℕ)
-guarded_history large call left script = limit_history large large_head (body_plan too_large_reply) (catch_history (λ text. panic_event text ∷ []) panic_head (body_plan panic_reply) (record {
+guarded_history large call left script = answers_instead large large_head (body_plan too_large_reply) (catch_history (λ text. panic_event text ∷ []) panic_head (body_plan panic_reply) (record {
   says = λ past t. call_tells call (slice_get script.polls (length past));
   events = λ past t. call_hands call left script (length past);
   left = λ past t. [];
@@ -172,7 +172,7 @@ inner_follows limits script =
     (panic_handler_follows IsDefaultExt Heads panic_head (plain 500 (codes "Service panicked")) script_body_history (body_plan panic_reply) (one_text 500 (codes "Service panicked")))
     (script_follows left script)) large)
 
-no_events : (large : Bool) → limit_events large [] ≡ []
+no_events : (large : Bool) → records_unless large [] ≡ []
 no_events true = refl
 no_events false = refl
 
