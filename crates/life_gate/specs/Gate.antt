@@ -1,0 +1,127 @@
+-- What `ValidateRequestHeader` does: it has a request judged, and calls its inner service or refuses.
+use Rattle.std.specs.Prelude.{◌≡◌, Some, None, Result, Ok, Err, IsSome, IfSome}
+use Rattle.std.specs.Borrow.{MutBor}
+use Rattle.std.specs.Fn.{Called, Mut}
+use Rattle.life_core.specs.Meaning.{Polls, Leaves, Readies, Calls, LeavesIfAny, GivenUp}
+use Rattle.life_core.specs.Moment.{Moment}
+use Rattle.life_core.specs.Recorded.{Recorded}
+use Rattle.life_core.specs.declared.message.Request.{Request}
+use Rattle.life_core.specs.declared.message.Response.{Response}
+use Rattle.life_core.specs.declared.poll.Poll.{Poll}
+use Rattle.life_core.specs.declared.poll.Poll.TheVariants.{Ready}
+use Rattle.life_core.specs.declared.recorder.NoMemory.{NoMemory}
+use Rattle.life_gate.specs.Judged.{Verdict}
+use Rattle.life_gate.specs.declared.validate_request.future.Kind.{Kind}
+use Rattle.life_gate.specs.declared.validate_request.future.Kind.TheVariants.{Future, Error}
+use Rattle.life_gate.specs.declared.validate_request.future.ResponseFuture.{ResponseFuture}
+use Rattle.life_gate.specs.declared.validate_request.layer.ValidateRequestHeaderLayer.{ValidateRequestHeaderLayer}
+use Rattle.life_gate.specs.declared.validate_request.service.ValidateRequestHeader.{ValidateRequestHeader}
+
+-- Validator and request before, the answer, validator and request after.
+abbrev pub Validates : Type 0 → Type 0 → Type 0 → Type 0 → Type 1
+Validates V B P X = V → Request B X → Verdict P X → V → Request B X → Type 0
+
+-- the closure is called once, at the request
+pub record ClosureValidates {F A B P X : Type 0} (calls : Mut F (A × (MutBor (Request B X) × Unit {0})) (Verdict P X × (MutBor (Request B X) × Unit {0})))
+    (closure : F) (request : Request B X) (answer : Verdict P X) (after : F) (seen : Request B X) : Type 0 where
+  pub alloc : A
+  pub lent : MutBor (Request B X)
+  pub left : MutBor (Request B X)
+  pub called : Called calls closure (alloc, (lent, tt)) (answer, (left, tt)) after
+  pub begins : lent.now ≡ request
+  pub ends : left.now ≡ seen
+
+abbrev pub gate_layer : {T : Type 0} → T → ValidateRequestHeaderLayer T
+gate_layer validate = record { validate = validate }
+
+abbrev pub gate_service : {S T : Type 0} → S → T → ValidateRequestHeader S T
+gate_service inner validate = record { inner = inner; validate = validate }
+
+abbrev pub gate_round : {S T : Type 0} → ValidateRequestHeaderLayer T → S → ValidateRequestHeader S T
+gate_round layer inner = gate_service inner layer.validate
+
+abbrev pub gate_inner : {S T : Type 0} → ValidateRequestHeader S T → S
+gate_inner s = s.inner
+
+-- the inner service and the validator may be called, and what a validator leaves and gives may be given up
+pub record GateMay {S V B P X : Type 0} (may : S → Type 0) (validate_may : V → Type 0) (validates : Validates V B P X)
+    (request_body_may : B → Type 0) (refusal_body_may : P → Type 0) (s : ValidateRequestHeader S V) : Type 0 where
+  pub inner : may s.inner
+  pub validate : validate_may s.validate
+  pub leaves : (old : V) (req : Request B X) (answer : Verdict P X) (new : V) (seen : Request B X) →
+      request_body_may req.body → validates old req answer new seen → request_body_may seen.body
+  pub gives : (old : V) (req : Request B X) (r : Response P X) (new : V) (seen : Request B X) →
+      request_body_may req.body → validates old req (Ok (Err r)) new seen → refusal_body_may r.body
+
+-- the inner answer of readiness; the layer's own parts stay
+pub record GateReadies {S V E : Type 0} (readies : Readies S E) (old : ValidateRequestHeader S V) (was : Recorded) (m : Moment)
+    (answer : Poll (Result Unit E)) (new : ValidateRequestHeader S V) (now : Recorded) : Type 0 where
+  pub inner : readies old.inner was m answer new.inner now
+  pub same : new ≡ record old { inner = new.inner }
+
+-- the future over an inner one
+abbrev pub passing : {F P X : Type 0} → F → ResponseFuture F P X
+passing future = record { kind = Future future }
+
+-- the future of a refusal
+abbrev pub refusing : {F P X : Type 0} → Response P X → ResponseFuture F P X
+refusing refusal = record { kind = Error (Some refusal) }
+
+-- the inner call, and the future over what it gave
+abbrev pub PassedBy : {S R F P X : Type 0} → Calls S R F → S → R → Recorded → Moment → Result (ResponseFuture F P X) NoMemory → S → Recorded → Type 0
+PassedBy {F = F} calls old req was m (Ok f) new now = (given : F) × calls old req was m (Ok given) new now × (f ≡ passing given)
+PassedBy calls old req was m (Err e) new now = calls old req was m (Err e) new now
+
+-- the request's body is given up, and the future has the refusal; where that finds no memory, the body of the refusal is given up too
+abbrev pub RefusedBy : {F B P X : Type 0} → Leaves B → Leaves P → B → Response P X → Recorded → Moment → Result (ResponseFuture F P X) NoMemory → Recorded → Type 0
+RefusedBy leaves body_leaves body refusal was m (Ok f) now = leaves body was m (Ok tt) now × (f ≡ refusing refusal)
+RefusedBy leaves body_leaves body refusal was m (Err e) now = (between : Recorded) × leaves body was m (Err e) between × GivenUp body_leaves refusal.body between m now
+
+module _ {S V B P X F : Type 0} (calls : Calls S (Request B X) F) (validates : Validates V B P X) (leaves : Leaves B) (body_leaves : Leaves P) where
+  -- what comes of the request that the validator left: the inner service is called where it passes, and else stays as it was
+  abbrev pub Follows : Verdict P X → S → Request B X → Recorded → Moment → Result (ResponseFuture F P X) NoMemory → S → Recorded → Type 0
+  Follows (Ok (Ok u)) old seen was m answer new now = PassedBy calls old seen was m answer new now
+  Follows (Ok (Err refusal)) old seen was m answer new now = RefusedBy leaves body_leaves seen.body refusal was m answer now × (new ≡ old)
+  Follows (Err e) old seen was m answer new now = (answer ≡ Err e) × GivenUp leaves seen.body was m now × (new ≡ old)
+
+  pub record GateCalls (old : ValidateRequestHeader S V) (req : Request B X) (was : Recorded) (m : Moment)
+      (answer : Result (ResponseFuture F P X) NoMemory) (new : ValidateRequestHeader S V) (now : Recorded) : Type 0 where
+    pub verdict : Verdict P X
+    pub seen : Request B X
+    pub validated : validates old.validate req verdict new.validate seen
+    pub follows : Follows verdict old.inner seen was m answer new.inner now
+
+abbrev pub KindMay : {F P X : Type 0} → (F → Type 0) → (P → Type 0) → Kind F P X → Type 0
+KindMay may body_may (Future f) = may f
+KindMay may body_may (Error refusal) = IfSome refusal (λ r. body_may r.body)
+
+abbrev pub GateFutureMay : {F P X : Type 0} → (F → Type 0) → (P → Type 0) → ResponseFuture F P X → Type 0
+GateFutureMay may body_may f = KindMay may body_may f.kind
+
+abbrev pub KindLive : {F P X : Type 0} → (F → Type 0) → Kind F P X → Type 0
+KindLive live (Future f) = live f
+KindLive live (Error refusal) = IsSome refusal
+
+-- the inner future is live, or the refusal is there
+abbrev pub GateFutureLive : {F P X : Type 0} → (F → Type 0) → ResponseFuture F P X → Type 0
+GateFutureLive live f = KindLive live f.kind
+
+abbrev pub KindPolls : {F P X E : Type 0} → Polls F (Result (Response P X) E) → Polls (Kind F P X) (Result (Response P X) E)
+KindPolls polls (Future f) was m answer (Future g) now = polls f was m answer g now
+KindPolls polls (Future f) was m answer (Error r) now = ⊥
+KindPolls polls (Error (Some refusal)) was m answer (Error None) now = (answer ≡ Ok (Ready (Ok refusal))) × (now ≡ was)
+KindPolls polls (Error (Some refusal)) was m answer (Error (Some r)) now = ⊥
+KindPolls polls (Error (Some refusal)) was m answer (Future g) now = ⊥
+KindPolls polls (Error None) was m answer new now = ⊥
+
+-- the inner answer, or the refusal, which is taken and records nothing
+abbrev pub GatePolls : {F P X E : Type 0} → Polls F (Result (Response P X) E) → Polls (ResponseFuture F P X) (Result (Response P X) E)
+GatePolls polls old was m answer new now = KindPolls polls old.kind was m answer new.kind now
+
+abbrev pub KindLeaves : {F P X : Type 0} → Leaves F → Leaves P → Leaves (Kind F P X)
+KindLeaves leaves body_leaves (Future f) was m answer now = leaves f was m answer now
+KindLeaves leaves body_leaves (Error refusal) was m answer now = LeavesIfAny (λ r was m answer now. body_leaves r.body was m answer now) refusal was m answer now
+
+-- what is there is given up: the inner future, or the refusal's body
+abbrev pub GateLeaves : {F P X : Type 0} → Leaves F → Leaves P → Leaves (ResponseFuture F P X)
+GateLeaves leaves body_leaves old was m answer now = KindLeaves leaves body_leaves old.kind was m answer now
