@@ -129,20 +129,39 @@ all_at f key d = needs (items_at key d) (all_of f)
 abbrev pub is_string : List ℕ → Data → Bool
 is_string text d = unwrap_or (option_map (λ s. bytes_eq s text) (as_str d)) false
 
+-- the text of the string at a key
+abbrev pub string_at : List ℕ → Data → Option (List ℕ)
+string_at key d = get key d >>= as_str
+
+-- a header name, which is kept in lower case
+abbrev pub name_of : List ℕ → Option (List ℕ)
+name_of text = cond (is_field_name text) (Some (lowercase text)) None
+
 -- ---- the layers
 
--- how the layers are set
-abbrev pub limits_of : Data → Option Limits
-limits_of d =
+-- the header that lets a request through, and what its first value must be
+abbrev pub gate_of : Data → Option (List ℕ × List ℕ)
+gate_of d =
+    string_at (codes "gate_name") d >>= name_of >>= λ name.
+    string_at (codes "gate_value") d >>= λ value.
+    Some (name, value)
+
+-- how the layers are set, where the gate is set so
+abbrev pub limits_with : Data → List ℕ × List ℕ → Option Limits
+limits_with d gate =
     number_at (codes "timeout") d >>= λ timeout.
     status_at (codes "timeout_status") d >>= λ status.
     number_at (codes "body_deadline") d >>= λ deadline.
     number_at (codes "byte_limit") d >>= λ bytes.
-    Some (record { timeout = timeout; timeout_status = status; body_deadline = deadline; byte_limit = bytes })
+    Some (record { timeout = timeout; timeout_status = status; body_deadline = deadline; byte_limit = bytes; gate_name = gate.0; gate_value = gate.1 })
+
+-- how the layers are set
+abbrev pub limits_of : Data → Option Limits
+limits_of d = gate_of d >>= limits_with d
 
 -- whether limits have a key that is not built yet
 abbrev pub has_unbuilt_limit : Data → Bool
-has_unbuilt_limit d = has (codes "gate_name") d || has (codes "gate_value") d || has (codes "classifier") d || has (codes "span_headers") d
+has_unbuilt_limit d = has (codes "classifier") d || has (codes "span_headers") d
 
 -- the limits
 abbrev pub limits_part : Data → Read Limits
@@ -173,10 +192,6 @@ step_part d = needs (step_of d) Good
 
 -- ---- header fields
 
--- a header name, which is kept in lower case
-abbrev pub name_of : List ℕ → Option (List ℕ)
-name_of text = cond (is_field_name text) (Some (lowercase text)) None
-
 -- a header value: each byte is a tab, or at least 32 and not 127
 abbrev pub value_of : List ℕ → Option FieldValue
 value_of text = cond (list_all is_value_byte text) (Some (plain_value text)) None
@@ -206,7 +221,7 @@ headers_at key d = all_at header_part key d
 
 -- the text at a key
 abbrev pub text_at : List ℕ → Data → Read (List ℕ)
-text_at key d = needs (get key d >>= as_str) Good
+text_at key d = needs (string_at key d) Good
 
 -- a chunk of a body
 abbrev pub chunk_part : Data → Read BodyItem

@@ -52,7 +52,7 @@ fn read_top(alloc: Global, top: &Value) -> Built<(Limits, Scenario)>
     let Some(limits) = top.get("limits") else {
         return Err(ReadError::BadScenario);
     };
-    let limits = read_limits(limits)?;
+    let limits = read_limits(alloc, limits)?;
     let scenario = read_parts(alloc, top)?;
     match (limits, scenario) {
         (Some(limits), Some(scenario)) => Ok(Some((limits, scenario))),

@@ -2,13 +2,13 @@
 ghost use Rattle.std.specs.Prelude.{◌≡◌, IfOk};
 
 use crate::headers::HeaderList;
-use http::StatusCode;
+use http::{HeaderName, StatusCode};
 use life_core::{Got, List, Octets, PanicText, Text, Twin};
 use std::alloc::Global;
 use std::marker::Model;
 
 /// How the layers are set. Times are in nanoseconds.
-#[derive(Clone, Copy, Debug)]
+#[derive(Debug, Drop)]
 pub struct Limits {
     /// How long a response may take.
     pub timeout: u64,
@@ -18,6 +18,25 @@ pub struct Limits {
     pub body_deadline: u64,
     /// How many bytes a request's body may have.
     pub byte_limit: u64,
+    /// The header that lets a request through.
+    pub gate_name: HeaderName,
+    /// What its first value must be.
+    pub gate_value: Text,
+}
+
+impl Twin for Limits {
+    fn twin(&self, alloc: Global) -> Got<Limits> {
+        let gate_name = self.gate_name.twin(alloc)?;
+        let gate_value = self.gate_value.twin(alloc)?;
+        Ok(Limits {
+            timeout: self.timeout,
+            timeout_status: self.timeout_status,
+            body_deadline: self.body_deadline,
+            byte_limit: self.byte_limit,
+            gate_name,
+            gate_value,
+        })
+    }
 }
 
 /// What a body gives at one poll.

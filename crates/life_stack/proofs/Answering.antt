@@ -34,14 +34,14 @@ use Rattle.life_stack.proofs.Heads.{head_of, head_more}
 
 -- what the service says under the timer
 abbrev pub timed_says : Limits → Numbered → ℕ → ℕ → ℕ → Said Head BodyPlan (List ℕ)
-timed_says limits script t0 k t = if due t0 limits.timeout t then Gives (limits.timeout_status, []) (body_plan (due_reply limits)) else said_with (named (ident script)) (service_says limits script.script k)
+timed_says limits script t0 k t = if due t0 limits.timeout t then Gives (limits.timeout_status, []) (body_plan (due_reply limits)) else said_with (named (ident script)) (service_says limits script k)
 
 pub head_said : (limits : Limits) (script : Numbered) (t0 : ℕ) (ps : List ℕ) (t : ℕ) → head limits script t0 ps ≡ None →
     head limits script t0 (ps ++ t ∷ []) ≡ head_of (length ps) (timed_says limits script t0 (length ps) t)
 head_said limits script t0 ps t e = head_more limits script t0 ps t e ∙ go (due t0 limits.timeout t)
   where
-    go : (b : Bool) → (if b then Some (length ps, Replied (due_reply limits)) else head_of (length ps) (said_with (named (ident script)) (service_says limits script.script (length ps))))
-        ≡ head_of (length ps) (if b then Gives (limits.timeout_status, []) (body_plan (due_reply limits)) else said_with (named (ident script)) (service_says limits script.script (length ps)))
+    go : (b : Bool) → (if b then Some (length ps, Replied (due_reply limits)) else head_of (length ps) (said_with (named (ident script)) (service_says limits script (length ps))))
+        ≡ head_of (length ps) (if b then Gives (limits.timeout_status, []) (body_plan (due_reply limits)) else said_with (named (ident script)) (service_says limits script (length ps)))
     go true = refl
     go false = refl
 

@@ -17,7 +17,7 @@ use Rattle.life_script.specs.declared.scenario.Limits.{Limits}
 use Rattle.life_script.specs.declared.scenario.PollItem.{PollItem}
 use Rattle.life_script.specs.declared.scenario.Then.{Then}
 use Rattle.life_script.specs.declared.scenario.Then.TheVariants as then_
-use Rattle.life_stack.specs.Handing.{Decision, TooLarge, Panicked, Served, asked_before, asks_of, bytes_of, decided_events, decision, handed_at, handed_by, handed_bytes, handed_from, panic_at, panic_event, panic_in, room, room_before, room_past}
+use Rattle.life_stack.specs.Handing.{Decision, TooLarge, Forbidden, Panicked, Served, asked_before, asks_of, bytes_of, decided_events, decision, handed_at, handed_by, handed_bytes, handed_from, panic_at, panic_event, panic_in, room, room_before, room_past}
 use Rattle.life_stack.specs.Ident.{Numbered}
 use Rattle.life_stack.specs.Own.{Own, called_at, dropped_at, polls, polls_before_drop}
 use Rattle.life_stack.specs.Story.{Outcome, answer, answers, any_ending, body_bytes, drop_events, drops, drops_at, events, head, kind_of, on_poll_events, poll_events, story, turns_after, turns_bytes, undue_events, unless_dropped}
@@ -115,6 +115,7 @@ module _ (limits : Limits) (script : Numbered) where
 
   decided_takes : (what : Decision) (k : ℕ) → Takes (decided_events what (room limits script.script) script.script k) k
   decided_takes TooLarge k = none_takes [] k refl
+  decided_takes Forbidden k = none_takes [] k refl
   decided_takes (Panicked text) k = none_takes (panic_event text ∷ []) k refl
   decided_takes Served k =
       let item = slice_get script.script.polls k in
@@ -128,7 +129,7 @@ module _ (limits : Limits) (script : Numbered) where
   choice_takes false es fs k e f = f
 
   undue_takes : (t0 k t : ℕ) → Takes (undue_events limits script t0 k t) k
-  undue_takes t0 k t = choice_takes (due t0 limits.timeout t) [] _ k (none_takes [] k refl) (decided_takes (decision limits script.script) k)
+  undue_takes t0 k t = choice_takes (due t0 limits.timeout t) [] _ k (none_takes [] k refl) (decided_takes (decision limits script) k)
 
   poll_takes : (t0 k t : ℕ) (o : Option (ℕ × Outcome)) → Takes (poll_events limits script t0 k t o) k
   poll_takes t0 k t None = undue_takes t0 k t

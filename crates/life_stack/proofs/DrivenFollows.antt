@@ -3,6 +3,7 @@ use Rattle.std.proofs.Common.{◌≡◌, ℕ, suc, List, [], ◌∷◌, ◌++◌
 use Rattle.std.proofs.lemmas.Bool.{le-leb}
 use Rattle.std.specs.Prelude.{codes, slice_get, ⊤}
 use Rattle.std.specs.declared.convert.Infallible.{Infallible}
+use Rattle.life_core.specs.Boxed.{BoxFrames, IsEmptyBox, box_ends}
 use Rattle.life_core.specs.Full.{FullFrames, LeavesNothing, full_ends}
 use Rattle.life_core.specs.History.{BodyFollows, FutureFollows, FutureHistory, Grew, Matches, ServiceFollows, Where, Waiting, Answered, answers_instead, left_at, records_unless}
 use Rattle.life_core.specs.Limited.{LimitedLeaves}
@@ -11,6 +12,7 @@ use Rattle.life_core.specs.Message.{IsBare, IsText}
 use Rattle.life_core.specs.Moment.{Moment}
 use Rattle.life_core.specs.OneChunk.{FullStands, TellsChunk, TellsEnd}
 use Rattle.life_core.specs.Recorded.{Recorded}
+use Rattle.life_core.specs.declared.body.limited.Limited.{Limited}
 use Rattle.life_core.specs.declared.event.DropKind.TheVariants as drop_kind
 use Rattle.life_core.specs.declared.event.Event.{Event}
 use Rattle.life_core.specs.declared.message.Request.{Request}
@@ -25,7 +27,10 @@ use Rattle.life_drop.proofs.NoteFollows.{note_records, note_future, note_start, 
 use Rattle.life_head.specs.Ids.{NumberMakes, x_request_id_name}
 use Rattle.life_head.specs.declared.request_id.propagating.PropagateRequestIdResponseFuture.{PropagateRequestIdResponseFuture}
 use Rattle.life_head.proofs.RequestIdFollows.{propagate_follows, propagate_keeps, propagate_serves, set_serves}
-use Rattle.life_limit.specs.Stands.{AsksBounded, catch_history, with_panic, caught}
+use Rattle.life_gate.specs.Required.{is_refused}
+use Rattle.life_gate.specs.Stands.{Judges}
+use Rattle.life_gate.proofs.GateFollows.{gate_follows, gate_keeps, gate_serves, required_judges}
+use Rattle.life_limit.specs.Stands.{catch_history, with_panic, caught}
 use Rattle.life_limit.specs.declared.limit.body.ResponseBody.TheVariants.{PayloadTooLarge, Body}
 use Rattle.life_limit.proofs.CatchFollows.{catch_follows, catch_keeps, catch_serves, panic_handler_follows}
 use Rattle.life_limit.proofs.LimitFollows.{limit_body_follows, limit_follows, limit_keeps, limit_serves}
@@ -41,23 +46,24 @@ use Rattle.life_time.specs.DeadlineBody.{DeadlineBodyLeaves, DeadlineFrames, dea
 use Rattle.life_time.specs.Stands.{DeadlineBodyStands, DeadlineStands, TimeoutStands}
 use Rattle.life_time.proofs.DeadlineFollows.{deadline_follows, deadline_body_follows, deadline_serves}
 use Rattle.life_time.proofs.TimeoutFollows.{timeout_follows, timeout_serves}
-use Rattle.life_stack.specs.Driven.{BodyPlan, BodyStands, FutureStands, Head, Heads, InnerBody, InnerBodyStands, InnerFuture, InnerServes, InnerStands, IsDefaultInner, ScriptBodyStands, StackStands, TellsHead, body_history, body_plan, call_hands, call_tells, decided_says, drive_body_leaves, drive_calls, drive_ends, drive_frames, drive_leaves, drive_polls, future_history, inner_body_leaves, inner_calls, inner_ends, inner_frames, inner_leaves, inner_polls, item_says, item_tells, named, script_body_history, service_history, timed_body_history}
-use Rattle.life_stack.specs.Handing.{decided, decided_events, is_too_large, panic_at, panic_event, panic_reply, room, text_reply, too_large_reply}
+use Rattle.life_stack.specs.Driven.{AsksGate, BodyPlan, Caught, CaughtStands, BodyStands, FutureStands, Head, Heads, InnerBody, InnerBodyStands, InnerFuture, InnerServes, InnerStands, IsDefaultInner, ScriptBodyStands, StackStands, TellsHead, body_history, body_plan, call_hands, call_tells, caught_leaves, decided_says, drive_body_leaves, drive_calls, drive_ends, drive_frames, drive_leaves, drive_polls, forbidden_head, future_history, gate_validates, inner_body_leaves, inner_calls, inner_ends, inner_frames, inner_leaves, inner_polls, item_says, item_tells, named, script_body_history, service_history, timed_body_history}
+use Rattle.life_stack.specs.Handing.{bare_reply, decided, decided_events, forbidden_reply, is_shut, is_too_large, panic_at, panic_event, panic_reply, room, text_reply, too_large_reply}
 use Rattle.life_stack.specs.Ident.{Numbered, ident}
 use Rattle.life_stack.specs.Script.{IsDefaultExt, IsRequestOf, ScriptFrames, ScriptLeaves, ext_id, ext_number, item_frame, tells_end, with_id}
 use Rattle.life_stack.specs.Story.{due_reply}
 use Rattle.life_stack.specs.declared.ext.Ext.{Ext}
 use Rattle.life_stack.specs.declared.script_service.ScriptBody.{ScriptBody}
 use Rattle.life_stack.proofs.Handing.{no_item, script_body_follows}
-use Rattle.life_stack.proofs.Naming.{head_named, request_named}
-use Rattle.life_stack.proofs.ScriptFollows.{AsksFor, script_follows, script_keeps, script_serves}
+use Rattle.life_stack.proofs.Naming.{AsksInner, head_named, request_named}
+use Rattle.life_stack.proofs.ScriptFollows.{script_follows, script_keeps, script_serves}
 
 -- BODIES.
 
+caught_body : BodyFollows (BoxFrames ScriptFrames (FullFrames {E = Infallible})) caught_leaves (box_ends tells_end full_ends) CaughtStands script_body_history
+caught_body = box_follows ScriptFrames ScriptLeaves tells_end ScriptBodyStands (FullFrames {E = Infallible}) LeavesNothing full_ends (FullStands script_body_history) script_body_history script_body_follows (full_never_faults script_body_history)
+
 inner_body : BodyFollows inner_frames inner_body_leaves inner_ends InnerBodyStands script_body_history
-inner_body = limit_body_follows _ _ _ _ script_body_history
-    (box_follows ScriptFrames ScriptLeaves tells_end ScriptBodyStands (FullFrames {E = Infallible}) LeavesNothing full_ends (FullStands script_body_history) script_body_history script_body_follows (full_never_faults script_body_history))
-    (full_never_faults script_body_history)
+inner_body = limit_body_follows _ _ _ _ script_body_history caught_body (full_never_faults script_body_history)
 
 timed_body : (limits : Limits) → BodyFollows (DeadlineFrames inner_frames) (DeadlineBodyLeaves inner_body_leaves) (deadline_ends inner_ends) (DeadlineBodyStands limits.body_deadline InnerBodyStands) (timed_body_history limits)
 timed_body limits = deadline_body_follows _ _ _ _ _ limits.body_deadline inner_body
@@ -73,16 +79,19 @@ one_text status text = record {
   left = λ past q. refl;
 }
 
-no_items : (limits : Limits) → TellsEnd (script_body_history (body_plan (due_reply limits)))
-no_items limits = record {
+no_items : (status : ℕ) → TellsEnd (script_body_history (body_plan (bare_reply status)))
+no_items status = record {
   frame = λ past q. ap item_frame (no_item (length past));
   ends = λ past. le-leb 0 (length past) (omega arith);
   events = λ past q. refl;
   left = λ past q. refl;
 }
 
+empty_box : (status : ℕ) (box : Caught) → IsEmptyBox box → CaughtStands (body_plan (bare_reply status)) box []
+empty_box status box d = rw d (no_items status)
+
 default : (limits : Limits) (b : InnerBody) → IsDefaultInner b → InnerBodyStands (body_plan (due_reply limits)) b []
-default limits (Body box) d = rw d (no_items limits)
+default limits (Body box) d = empty_box limits.timeout_status box d
 default limits (PayloadTooLarge b) d = absurd d
 
 -- HEADS.
@@ -122,12 +131,12 @@ large_head = (too_large_reply.status, too_large_reply.headers)
 abbrev panic_head : Head
 panic_head = (panic_reply.status, panic_reply.headers)
 
-abbrev guarded_history : Bool → CallItem → ℕ → ScriptView → FutureHistory Head BodyPlan (List ℕ)
-guarded_history large call left script = answers_instead large large_head (body_plan too_large_reply) (catch_history (λ text. panic_event text ∷ []) panic_head (body_plan panic_reply) (record {
+abbrev guarded_history : Bool → Bool → CallItem → ℕ → ScriptView → FutureHistory Head BodyPlan (List ℕ)
+guarded_history large shut call left script = answers_instead large large_head (body_plan too_large_reply) (answers_instead shut forbidden_head (body_plan forbidden_reply) (catch_history (λ text. panic_event text ∷ []) panic_head (body_plan panic_reply) (record {
   says = λ past t. call_tells call (slice_get script.polls (length past));
   events = λ past t. call_hands call left script (length past);
   left = λ past t. [];
-}))
+})))
 
 item_caught : (o : Option PollItem) → caught panic_head (body_plan panic_reply) (item_tells o) ≡ item_says o
 item_caught None = refl
@@ -149,46 +158,66 @@ item_fired (Some item) es = go item.then
     go (then_.Fail error) = sym (append-nil es)
     go (then_.Respond reply) = sym (append-nil es)
 
-guarded_says : (large : Bool) (call : CallItem) (left : ℕ) (script : ScriptView) (past : List ℕ) (t : ℕ) → (guarded_history large call left script).says past t ≡ decided_says (decided large call) script.polls (length past)
-guarded_says true call left script past t = refl
-guarded_says false call_item.Serve left script past t = item_caught (slice_get script.polls (length past))
-guarded_says false (call_item.Panic text) left script past t = refl
+guarded_says : (large shut : Bool) (call : CallItem) (left : ℕ) (script : ScriptView) (past : List ℕ) (t : ℕ) → (guarded_history large shut call left script).says past t ≡ decided_says (decided large shut call) script.polls (length past)
+guarded_says true shut call left script past t = refl
+guarded_says false true call left script past t = refl
+guarded_says false false call_item.Serve left script past t = item_caught (slice_get script.polls (length past))
+guarded_says false false (call_item.Panic text) left script past t = refl
 
-guarded_events : (large : Bool) (call : CallItem) (left : ℕ) (script : ScriptView) (past : List ℕ) (t : ℕ) → (guarded_history large call left script).events past t ≡ decided_events (decided large call) left script (length past)
-guarded_events true call left script past t = refl
-guarded_events false call_item.Serve left script past t = item_fired (slice_get script.polls (length past)) (call_hands call_item.Serve left script (length past))
-guarded_events false (call_item.Panic text) left script past t = refl
+guarded_events : (large shut : Bool) (call : CallItem) (left : ℕ) (script : ScriptView) (past : List ℕ) (t : ℕ) → (guarded_history large shut call left script).events past t ≡ decided_events (decided large shut call) left script (length past)
+guarded_events true shut call left script past t = refl
+guarded_events false true call left script past t = refl
+guarded_events false false call_item.Serve left script past t = item_fired (slice_get script.polls (length past)) (call_hands call_item.Serve left script (length past))
+guarded_events false false (call_item.Panic text) left script past t = refl
 
-guarded_left : (large : Bool) (call : CallItem) (left : ℕ) (script : ScriptView) (past : List ℕ) (t : ℕ) → (guarded_history large call left script).left past t ≡ []
-guarded_left true call left script past t = refl
-guarded_left false call left script past t = refl
+guarded_left : (large shut : Bool) (call : CallItem) (left : ℕ) (script : ScriptView) (past : List ℕ) (t : ℕ) → (guarded_history large shut call left script).left past t ≡ []
+guarded_left true shut call left script past t = refl
+guarded_left false true call left script past t = refl
+guarded_left false false call left script past t = refl
 
-inner_follows : (limits : Limits) (script : ScriptView) → FutureFollows inner_polls inner_leaves Heads (InnerStands limits script) InnerBodyStands (service_history limits script)
+-- a refusal of the gate
+refused_head : (head : ResponseHead Ext) → IsBare IsDefaultExt 403 head → Heads forbidden_head head
+refused_head head b = (bare 403 head b, omega arith)
+
+-- the gate asks for what the limits say
+gate_judges : (limits : Limits) → Judges {B = Limited ScriptBody} gate_validates (AsksGate limits) (λ (req : Request (Limited ScriptBody) Ext). is_refused limits.gate_name limits.gate_value req.head.parts.headers)
+    Heads CaughtStands forbidden_head (body_plan forbidden_reply)
+gate_judges limits = required_judges IsEmptyBox IsDefaultExt limits.gate_name limits.gate_value Heads CaughtStands forbidden_head (body_plan forbidden_reply) refused_head (empty_box 403)
+
+inner_follows : (limits : Limits) (script : Numbered) → FutureFollows inner_polls inner_leaves Heads (InnerStands limits script) InnerBodyStands (service_history limits script)
 inner_follows limits script =
-    let large = is_too_large limits script in let left = room limits script in
-    follows_as _ _ _ _ _ (guarded_history large script.call left script) _ (guarded_says large script.call left script) (guarded_events large script.call left script) (guarded_left large script.call left script)
+    let large = is_too_large limits script.script in let shut = is_shut limits script in let left = room limits script.script in let call = script.script.call in
+    follows_as _ _ _ _ _ (guarded_history large shut call left script.script) _ (guarded_says large shut call left script.script) (guarded_events large shut call left script.script) (guarded_left large shut call left script.script)
     (limit_follows _ _ IsDefaultExt Heads large_head (plain 413 (codes "length limit exceeded")) _ _ script_body_history (body_plan too_large_reply) (one_text 413 (codes "length limit exceeded")) _
+    (gate_follows _ _ _ caught_leaves _ Heads _ _ script_body_history forbidden_head (body_plan forbidden_reply) _ (λ t. refl)
     (catch_follows _ _ _ (λ _. ⊤) Heads panic_head (body_plan panic_reply) (λ text. panic_event text ∷ []) _ _ _ script_body_history _
     (panic_handler_follows IsDefaultExt Heads panic_head (plain 500 (codes "Service panicked")) script_body_history (body_plan panic_reply) (one_text 500 (codes "Service panicked")))
-    (script_follows left script)) large)
+    (script_follows left script.script)) caught_body shut) large)
 
-no_events : (large : Bool) → records_unless large [] ≡ []
-no_events true = refl
-no_events false = refl
+no_events : (large shut : Bool) → records_unless large (records_unless shut []) ≡ []
+no_events true shut = refl
+no_events false true = refl
+no_events false false = refl
 
 -- to give up a request's body records nothing
 quiet : (body : ScriptBody) (was : Recorded) (m : Moment) (u : Unit) (now : Recorded) → ScriptLeaves body was m (Ok u) now → Grew was now []
 quiet body was m u now d = grew_none was now d.1
 
-inner_serves : (limits : Limits) (script : Numbered) →
-    ServiceFollows inner_calls (AsksBounded (is_too_large limits script.script) limits.byte_limit (AsksFor (room limits script.script) script.script script.number)) (InnerServes limits script) (λ t. InnerStands limits script.script) []
+quiet_within : (body : Limited ScriptBody) (was : Recorded) (m : Moment) (u : Unit) (now : Recorded) → LimitedLeaves ScriptLeaves body was m (Ok u) now → Grew was now []
+quiet_within body was m u now d = grew_none was now d.1
+
+inner_serves : (limits : Limits) (script : Numbered) → ServiceFollows inner_calls (AsksInner limits script) (InnerServes limits script) (λ t. InnerStands limits script) []
 inner_serves limits script =
-    let large = is_too_large limits script.script in
-    subst (λ es. ServiceFollows inner_calls (AsksBounded large limits.byte_limit (AsksFor (room limits script.script) script.script script.number)) (InnerServes limits script) (λ t. InnerStands limits script.script) es) (no_events large)
-    (limit_serves _ ScriptLeaves _ _ _ _ quiet (catch_serves _ (LimitedLeaves ScriptLeaves) _ (λ _. ⊤) _ _ _ (script_serves (room limits script.script) script.script script.number)) large limits.byte_limit)
+    let large = is_too_large limits script.script in let shut = is_shut limits script in
+    subst (λ es. ServiceFollows inner_calls (AsksInner limits script) (InnerServes limits script) (λ t. InnerStands limits script) es) (no_events large shut)
+    (limit_serves _ ScriptLeaves _ _ _ _ quiet
+    (gate_serves _ _ (LimitedLeaves ScriptLeaves) caught_leaves _ _ _ _ (AsksGate limits) _ Heads CaughtStands forbidden_head (body_plan forbidden_reply) quiet_within (gate_judges limits)
+    (catch_serves _ (LimitedLeaves ScriptLeaves) _ (λ _. ⊤) _ _ _ (script_serves (room limits script.script) script.script script.number)) shut) large limits.byte_limit)
 
 inner_keeps : (limits : Limits) (script : Numbered) → ServiceFollows {R = Request ScriptBody Ext} inner_calls (λ r. ⊤) (InnerServes limits script) (λ t (f : InnerFuture) (w : Where). ⊤) []
-inner_keeps limits script = limit_keeps _ ScriptLeaves _ _ quiet (catch_keeps _ (LimitedLeaves ScriptLeaves) (λ _. ⊤) _ _ _ (script_keeps script.script script.number)) limits.byte_limit
+inner_keeps limits script = limit_keeps _ ScriptLeaves _ _ quiet
+    (gate_keeps _ _ (LimitedLeaves ScriptLeaves) caught_leaves _ _ (AsksGate limits) _ Heads CaughtStands forbidden_head (body_plan forbidden_reply) quiet_within (gate_judges limits)
+    (catch_keeps _ (LimitedLeaves ScriptLeaves) (λ _. ⊤) _ _ _ (script_keeps script.script script.number))) limits.byte_limit
 
 -- THE STACK.
 
@@ -197,7 +226,7 @@ pub future_follows : (limits : Limits) (script : Numbered) (t0 : ℕ) →
 future_follows limits script t0 = drop_follows _ _ _ _ _ _ _ _ _ _ _ _ _ _ (note_body TellsHead (λ h. h.0) (λ g head h. h.status_is) t0) _ (noting drop_kind.Future t0) _ note_records
     (deadline_follows _ _ _ _ _ _ limits.body_deadline
     (timeout_follows _ _ _ _ _ (record { start = t0; length = limits.timeout }) limits.timeout_status (limits.timeout_status, []) (bare limits.timeout_status) _ _ _ (body_plan (due_reply limits)) (default limits)
-    (propagate_follows _ _ _ ext_id with_id x_request_id_name (Some (ident script)) Heads TellsHead (named (ident script)) (head_named (ident script)) _ _ _ (inner_follows limits script.script))))
+    (propagate_follows _ _ _ ext_id with_id x_request_id_name (Some (ident script)) Heads TellsHead (named (ident script)) (head_named (ident script)) _ _ _ (inner_follows limits script))))
     (timed_body limits)
 
 pub body_follows : (limits : Limits) (t0 : ℕ) → BodyFollows drive_frames drive_body_leaves drive_ends (BodyStands limits t0) (body_history limits t0)

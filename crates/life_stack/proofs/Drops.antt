@@ -16,7 +16,7 @@ use Rattle.life_script.specs.declared.scenario.Then.TheVariants as then_
 use Rattle.life_script.specs.declared.scenario.Limits.{Limits}
 use Rattle.life_stack.specs.Own.{Own, called_at, first_drop, polls, dropped_at, drop_time}
 use Rattle.life_stack.specs.Story.{Outcome, Replied, Failed, head, drop_answer, drop_events, on_call, on_drop, on_poll_events, answer, answers, any_ending, kind_of, drops_at, drops, events, poll_events, turns_after, undue_events, unless_dropped, at_end, dropped_in, drop_records, story}
-use Rattle.life_stack.specs.Handing.{Decision, TooLarge, Panicked, Served, asked_before, asks_of, decided_events, decision, handed_from, panic_at, panic_in, room}
+use Rattle.life_stack.specs.Handing.{Decision, TooLarge, Forbidden, Panicked, Served, asked_before, asks_of, decided_events, decision, handed_from, panic_at, panic_in, room}
 use Rattle.life_core.specs.declared.latency.LatencyUnit.TheVariants.{Nanos}
 use Rattle.life_script.specs.ToldView.{TurnView}
 use Rattle.life_stack.proofs.Failing.{Marked, ended_none, marked_none, marked_step}
@@ -79,6 +79,7 @@ module _ (limits : Limits) (script : Numbered) where
 
   decided_quiet : (what : Decision) (left k : ℕ) → dropped_in (decided_events what left script.script k) ≡ []
   decided_quiet TooLarge left k = refl
+  decided_quiet Forbidden left k = refl
   decided_quiet (Panicked text) left k = refl
   decided_quiet Served left k =
       let item = slice_get script.script.polls k in
@@ -89,7 +90,7 @@ module _ (limits : Limits) (script : Numbered) where
   choice_quiet false es fs e f = f
 
   undue_quiet : (t0 k t : ℕ) → dropped_in (undue_events limits script t0 k t) ≡ []
-  undue_quiet t0 k t = choice_quiet (due t0 limits.timeout t) [] _ refl (decided_quiet (decision limits script.script) (room limits script.script) k)
+  undue_quiet t0 k t = choice_quiet (due t0 limits.timeout t) [] _ refl (decided_quiet (decision limits script) (room limits script.script) k)
 
   poll_quiet : (t0 k t : ℕ) (o : Option (ℕ × Outcome)) → dropped_in (poll_events limits script t0 k t o) ≡ []
   poll_quiet t0 k t None = undue_quiet t0 k t

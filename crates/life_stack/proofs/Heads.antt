@@ -12,7 +12,7 @@ use Rattle.life_script.specs.declared.scenario.PollItem.{PollItem}
 use Rattle.life_script.specs.declared.scenario.Then.{Then}
 use Rattle.life_script.specs.declared.scenario.Then.TheVariants as then_
 use Rattle.life_stack.specs.Story.{Outcome, Replied, Failed, replied, next, first_due, later, outcome_in, here_or_later, first_outcome, decided_outcome, ready_outcome, earlier, counted, due_reply, head}
-use Rattle.life_stack.specs.Handing.{Decision, TooLarge, Panicked, Served, decision, panic_reply, too_large_reply}
+use Rattle.life_stack.specs.Handing.{Decision, TooLarge, Forbidden, Panicked, Served, decision, forbidden_reply, panic_reply, too_large_reply}
 use Rattle.life_core.specs.History.{Said, Waits, Gives, Fails, said_with}
 use Rattle.life_stack.specs.Driven.{BodyPlan, Head, named, then_says, item_says, decided_says, reply_says, service_says}
 
@@ -133,11 +133,12 @@ at_once id (suc n) r e = absurd (some≢none (sym (counted_below (suc n) 0 (Repl
 
 decided_at : (what : Decision) (script : Numbered) (n : ℕ) → counted n (decided_outcome what script) ≡ None → counted (suc n) (decided_outcome what script) ≡ head_of n (said_with (named (ident script)) (decided_says what script.script.polls n))
 decided_at TooLarge script n e = at_once (ident script) n too_large_reply e
+decided_at Forbidden script n e = at_once (ident script) n forbidden_reply e
 decided_at (Panicked text) script n e = at_once (ident script) n panic_reply e
 decided_at Served script n e = first_outcome_at (ident script) n script.script.polls e
 
-ready_at : (limits : Limits) (script : Numbered) (n : ℕ) → counted n (ready_outcome limits script) ≡ None → counted (suc n) (ready_outcome limits script) ≡ head_of n (said_with (named (ident script)) (service_says limits script.script n))
-ready_at limits script n e = decided_at (decision limits script.script) script n e
+ready_at : (limits : Limits) (script : Numbered) (n : ℕ) → counted n (ready_outcome limits script) ≡ None → counted (suc n) (ready_outcome limits script) ≡ head_of n (said_with (named (ident script)) (service_says limits script n))
+ready_at limits script n e = decided_at (decision limits script) script n e
 
 pub length_push : {A : Type 0} (xs : List A) (x : A) → length (xs ++ x ∷ []) ≡ suc (length xs)
 length_push [] x = refl
@@ -145,13 +146,13 @@ length_push (y ∷ xs) x = ap suc (length_push xs x)
 
 -- the first poll that answers, where none did so far
 pub head_more : (limits : Limits) (script : Numbered) (t0 : ℕ) (ps : List ℕ) (t : ℕ) → head limits script t0 ps ≡ None →
-    head limits script t0 (ps ++ t ∷ []) ≡ (if due t0 limits.timeout t then Some (length ps, Replied (due_reply limits)) else head_of (length ps) (said_with (named (ident script)) (service_says limits script.script (length ps))))
+    head limits script t0 (ps ++ t ∷ []) ≡ (if due t0 limits.timeout t then Some (length ps, Replied (due_reply limits)) else head_of (length ps) (said_with (named (ident script)) (service_says limits script (length ps))))
 unfolding if_none
 head_more limits script t0 ps t e = let was = head_none limits script t0 ps e in
     rw (length_push ps t, first_due-push t0 limits.timeout ps t, was.0) (go (due t0 limits.timeout t) (ready_outcome limits script) was.1 (ready_at limits script (length ps) was.1))
   where
-    go : (b : Bool) (a : Option (ℕ × Outcome)) → counted (length ps) a ≡ None → counted (suc (length ps)) a ≡ head_of (length ps) (said_with (named (ident script)) (service_says limits script.script (length ps))) →
-        counted (suc (length ps)) (earlier (if b then Some (length ps) else None) a (Replied (due_reply limits))) ≡ (if b then Some (length ps, Replied (due_reply limits)) else head_of (length ps) (said_with (named (ident script)) (service_says limits script.script (length ps))))
+    go : (b : Bool) (a : Option (ℕ × Outcome)) → counted (length ps) a ≡ None → counted (suc (length ps)) a ≡ head_of (length ps) (said_with (named (ident script)) (service_says limits script (length ps))) →
+        counted (suc (length ps)) (earlier (if b then Some (length ps) else None) a (Replied (due_reply limits))) ≡ (if b then Some (length ps, Replied (due_reply limits)) else head_of (length ps) (said_with (named (ident script)) (service_says limits script (length ps))))
     go false a n f = f
     go true None n f = counted_below (suc (length ps)) (length ps) (Replied (due_reply limits)) (omega arith)
     go true (Some (r, reply)) n f = rw (le-leb (length ps) r (above_of (length ps) r reply n)) (counted_below (suc (length ps)) (length ps) (Replied (due_reply limits)) (omega arith))

@@ -1,9 +1,10 @@
 -- What the layers of ids make of a request and of a response's head.
 use Rattle.std.proofs.Common.{true≢false, ◌≡◌, ◌≤◌, ℕ, length, Option, Some, None, Ok, refl, sym, ap, ◌∙◌, subst, decimal}
-use Rattle.std.specs.Prelude.{bytes_eq, codes, slice_get, unwrap_or, ⊤}
+use Rattle.std.specs.Prelude.{bytes_eq, codes, not, slice_get, unwrap_or, ⊤}
 use Rattle.http_header.specs.FieldValue.{FieldValue, plain_value}
 use Rattle.http_header.specs.HeaderMap.{Entries, get}
 use Rattle.life_core.specs.Header.{is_full_for, put_in}
+use Rattle.life_core.specs.declared.body.limited.Limited.{Limited}
 use Rattle.life_core.specs.declared.message.Request.{Request}
 use Rattle.life_core.specs.declared.message.ResponseHead.{ResponseHead}
 use Rattle.life_head.specs.Ids.{NumberMakes, id_of, id_of_number, marked, marked_by, or_else, tagged, tagged_by, x_request_id_name}
@@ -12,16 +13,18 @@ use Rattle.life_head.specs.Stands.{AsksWith, first_of}
 use Rattle.life_head.specs.declared.request_id.id.RequestId.{RequestId}
 use Rattle.life_head.specs.declared.request_id.number.ByNumber.{ByNumber}
 use Rattle.life_head.proofs.RequestIdFollows.{tagged_is, tagged_others, tagged_value}
+use Rattle.life_gate.specs.Required.{is_refused, matches_first}
+use Rattle.life_gate.specs.Stands.{AsksPast}
 use Rattle.life_limit.specs.Length.{length_told}
 use Rattle.life_limit.specs.Limit.{is_above, room_of}
 use Rattle.life_limit.specs.Stands.{AsksBounded}
-use Rattle.life_script.specs.Headers.{added_to, first_value, map_of}
+use Rattle.life_script.specs.Headers.{Headers, added_to, first_value, map_of}
 use Rattle.life_script.specs.declared.scenario.Limits.{Limits}
 use Rattle.life_script.specs.Valid.{ScriptFits}
 use Rattle.life_script.specs.declared.checks.TheConstants.{MAX_HEADER_VALUES}
 use Rattle.life_script.proofs.HeaderMaps.{get_map, map_has_room, put_missing}
 use Rattle.life_stack.specs.Driven.{Head, Heads, TellsHead, named}
-use Rattle.life_stack.specs.Handing.{is_too_large, room}
+use Rattle.life_stack.specs.Handing.{is_shut, is_too_large, room, seen_headers}
 use Rattle.life_stack.specs.Ident.{Numbered, ident}
 use Rattle.life_stack.specs.Script.{IsNumbered, IsRequestOf, ext_id, ext_number, items_of, with_id}
 use Rattle.life_stack.proofs.ScriptFollows.{AsksFor}
@@ -75,10 +78,31 @@ differ e = true≢false (ap (λ l. bytes_eq x_request_id_name l) e)
 length_kept : (given : Option RequestId) (req : Request ScriptBody Ext) → get (tagged ext_id with_id x_request_id_name given req).head.parts.headers (codes "content-length") ≡ get req.head.parts.headers (codes "content-length")
 length_kept given req = ap (λ values. slice_get values 0) (tagged_others ext_id with_id x_request_id_name given (codes "content-length") req differ)
 
+-- the headers with the id
+headers_by : (x : Option FieldValue) (i : ℕ) (req : Request ScriptBody Ext) (headers : Headers) → length headers ≤ MAX_HEADER_VALUES → req.head.parts.headers ≡ map_of headers → first_value x_request_id_name headers ≡ x →
+    (tagged_by ext_id with_id x (Some (id_of (plain_value (decimal i)))) x_request_id_name req).head.parts.headers ≡ map_of (added_to x x_request_id_name (unwrap_or x (plain_value (decimal i))) headers)
+headers_by (Some v) i req headers short are is = are
+headers_by None i req headers short are is = ap (λ (m : Entries FieldValue). put_in m x_request_id_name (plain_value (decimal i))) are ∙ put_missing x_request_id_name (plain_value (decimal i)) headers short is
+
+headers_tagged : (script : Numbered) (req : Request ScriptBody Ext) → IsRequestOf script.script script.number req → ScriptFits script.script →
+    (tagged ext_id with_id x_request_id_name (Some (id_of (plain_value (decimal script.number)))) req).head.parts.headers ≡ map_of (seen_headers script)
+headers_tagged script req q fits =
+    let given : Option RequestId = Some (id_of (plain_value (decimal script.number))) in
+    let found : get req.head.parts.headers x_request_id_name ≡ first_value x_request_id_name script.script.headers =
+    ap (λ (m : Entries FieldValue). get m x_request_id_name) q.headers_are ∙ get_map x_request_id_name script.script.headers in
+    ap (λ x. (tagged_by ext_id with_id x given x_request_id_name req).head.parts.headers) found
+    ∙ headers_by (first_value x_request_id_name script.script.headers) script.number req script.script.headers fits.headers q.headers_are refl
+
+-- what the layers round the service are asked: a request that is too large, one that is refused by the gate, or one that the service takes
+abbrev pub AsksInner : Limits → Numbered → Request ScriptBody Ext → Type 0
+AsksInner limits script = AsksBounded (is_too_large limits script.script) limits.byte_limit
+    (AsksPast (is_shut limits script) (λ (req : Request (Limited ScriptBody) Ext). is_refused limits.gate_name limits.gate_value req.head.parts.headers)
+    (AsksFor (room limits script.script) script.script script.number))
+
 -- the request that the layers round the service are called with
 pub request_named : (limits : Limits) (script : Numbered) (maker : ByNumber) (req : Request ScriptBody Ext) (maker_new : ByNumber) (new : Request ScriptBody Ext) → ⊤ → IsRequestOf script.script script.number req × ScriptFits script.script →
     Tags (NumberMakes ext_number) ext_id with_id x_request_id_name maker req (Ok tt) maker_new new →
-    AsksWith x_request_id_name (Some (ident script)) (AsksBounded (is_too_large limits script.script) limits.byte_limit (AsksFor (room limits script.script) script.script script.number)) new
+    AsksWith x_request_id_name (Some (ident script)) (AsksInner limits script) new
 request_named limits script maker req maker_new new keeps q t =
     let given : Option RequestId = Some (id_of (plain_value (decimal script.number))) in
     let new_is : new ≡ tagged ext_id with_id x_request_id_name given req =
@@ -89,15 +113,21 @@ request_named limits script maker req maker_new new keeps q t =
     let told : get new.head.parts.headers (codes "content-length") ≡ first_value (codes "content-length") script.script.headers =
     ap (λ (r : Request ScriptBody Ext). get r.head.parts.headers (codes "content-length")) new_is ∙ (length_kept given req
     ∙ (ap (λ (m : Entries FieldValue). get m (codes "content-length")) (q.0).headers_are ∙ get_map (codes "content-length") script.script.headers)) in
+    let seen : get new.head.parts.headers limits.gate_name ≡ first_value limits.gate_name (seen_headers script) =
+    ap (λ (r : Request ScriptBody Ext). get r.head.parts.headers limits.gate_name) new_is
+    ∙ (ap (λ (m : Entries FieldValue). get m limits.gate_name) (headers_tagged script req q.0 q.1) ∙ get_map limits.gate_name (seen_headers script)) in
     let body_is : new.body ≡ req.body = ap (λ (r : Request ScriptBody Ext). r.body) new_is ∙ body_kept (get req.head.parts.headers x_request_id_name) given req in
     let numbered : IsNumbered script.number new = ap (λ (r : Request ScriptBody Ext). r.head.ext.number) new_is ∙ number_kept (get req.head.parts.headers x_request_id_name) given req ∙ (q.0).numbered in (
       (
         ap (λ o. is_above limits.byte_limit (length_told o)) told,
-        λ small. record {
-          numbered = numbered;
-          room = ap (λ o. room_of limits.byte_limit (length_told o)) told;
-          items = ap items_of body_is ∙ ((q.0).body).items_are;
-        },
+        λ small. (
+          ap (λ o. not (matches_first limits.gate_value o)) seen,
+          λ open_to. record {
+            numbered = numbered;
+            room = ap (λ o. room_of limits.byte_limit (length_told o)) told;
+            items = ap items_of body_is ∙ ((q.0).body).items_are;
+          },
+        ),
       ),
       ap (λ (r : Request ScriptBody Ext). get r.head.parts.headers x_request_id_name) new_is
           ∙ tagged_value ext_id with_id x_request_id_name given req room_for

@@ -74,7 +74,7 @@ module _ (limits : Limits) (script : Numbered) where
 
   -- the script that a stack stands for has lists that are short enough
   fits_of : (s : DriveStack) → StackStands limits script s → ScriptFits script.script
-  fits_of s k = ((((((k.inner).inner).inner).inner).inner).inner).1
+  fits_of s k = (((((((k.inner).inner).inner).inner).inner).inner).inner).1
 
   pub stack_called : (before : List Own) (was now : Recorded) (m : Moment) (s new : DriveStack) (req : Request ScriptBody Ext) (made : Result DriveFuture NoMemory) → IsRequestOf script.script script.number req →
       FreshAt limits script before → StackStands limits script s → drive_calls s req was m made new now → IfOk made (λ f. Called limits script before m.now was f now)

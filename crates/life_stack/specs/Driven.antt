@@ -39,11 +39,19 @@ use Rattle.life_head.specs.declared.request_id.propagating.PropagateRequestIdRes
 use Rattle.life_head.specs.declared.request_id.set.SetRequestId.{SetRequestId}
 use Rattle.life_core.specs.Boxed.{BoxFrames, BoxLeaves, BoxMay, IsEmptyBox, box_ends}
 use Rattle.life_core.specs.Full.{FullFrames, LeavesNothing, full_ends}
-use Rattle.life_core.specs.Limited.{LimitedLeaves, room_in}
+use Rattle.life_core.specs.Limited.{LimitedLeaves, LimitedMay, room_in}
+use Rattle.life_core.specs.declared.body.limited.Limited.{Limited}
 use Rattle.life_core.specs.OneChunk.{BoxStands, FullStands}
 use Rattle.life_core.specs.declared.body.boxed.UnsyncBoxBody.{UnsyncBoxBody}
 use Rattle.life_core.specs.declared.body.full.Full.{Full}
 use Rattle.life_core.specs.declared.event.Event.{Event}
+use Rattle.life_gate.specs.Gate.{GateCalls, GateFutureLive, GateFutureMay, GateLeaves, GateMay, GatePolls}
+use Rattle.life_gate.specs.Judged.{Verdict}
+use Rattle.life_gate.specs.Required.{RequiredValidates, required_of}
+use Rattle.life_gate.specs.Stands.{GateServes, GateStands}
+use Rattle.life_gate.specs.declared.validate_request.future.ResponseFuture.{ResponseFuture as GateFuture}
+use Rattle.life_gate.specs.declared.validate_request.required.RequiredHeaderValue.{RequiredHeaderValue}
+use Rattle.life_gate.specs.declared.validate_request.service.ValidateRequestHeader.{ValidateRequestHeader}
 use Rattle.life_limit.specs.Catch.{CatchCalls, CatchFutureLive, CatchFutureMay, CatchLeaves, CatchMay, CatchPolls, DefaultHandles}
 use Rattle.life_limit.specs.Limit.{LimitCalls, LimitFutureMay, LimitLeaves, LimitMay, LimitPolls}
 use Rattle.life_limit.specs.LimitBody.{IsDefaultBody, LimitBodyFrames, LimitBodyLeaves, LimitBodyMay, limit_body_ends}
@@ -70,7 +78,7 @@ use Rattle.life_core.specs.declared.fault.Fault.{Fault}
 use Rattle.life_core.specs.declared.fault.Fault.TheVariants as fault
 use Rattle.life_script.specs.declared.scenario.CallItem.{CallItem}
 use Rattle.life_script.specs.declared.scenario.CallItem.TheVariants as call_item
-use Rattle.life_stack.specs.Handing.{Decision, TooLarge, Panicked, Served, asked_before, asks_of, decision, handed_from, is_too_large, panic_reply, room, room_before, service_events, too_large_reply}
+use Rattle.life_stack.specs.Handing.{Decision, TooLarge, Forbidden, Panicked, Served, asked_before, asks_of, decision, forbidden_reply, handed_from, is_shut, is_too_large, panic_reply, room, room_before, service_events, too_large_reply}
 use Rattle.life_stack.specs.Script.{IsDefaultExt, Finds, asked_of, ext_id, ext_number, with_id, ScriptCalls, ScriptFrames, ScriptLeaves, ScriptPolls, item_frame, items_of, panic_of, polls_of, tells_end}
 use Rattle.life_stack.specs.Story.{due_reply}
 use Rattle.life_stack.specs.declared.ext.Ext.{Ext}
@@ -80,15 +88,19 @@ use Rattle.life_stack.specs.declared.script_service.ScriptService.{ScriptService
 
 -- THE TYPES.
 
+-- a scripted body, the text of a panic, or none
+abbrev pub Caught : Type 0
+Caught = UnsyncBoxBody ScriptBody Full
+
 -- the layers that may answer in the service's place, round it
 abbrev pub Inner : Type 0
-Inner = RequestBodyLimit (CatchPanic ScriptService DefaultResponseForPanic)
+Inner = RequestBodyLimit (ValidateRequestHeader (CatchPanic ScriptService DefaultResponseForPanic) (RequiredHeaderValue Caught))
 
 abbrev pub InnerFuture : Type 0
-InnerFuture = LimitFuture (CatchFuture ScriptFuture DefaultResponseForPanic)
+InnerFuture = LimitFuture (GateFuture (CatchFuture ScriptFuture DefaultResponseForPanic) Caught Ext)
 
 abbrev pub InnerBody : Type 0
-InnerBody = ResponseBody (UnsyncBoxBody ScriptBody Full)
+InnerBody = ResponseBody Caught
 
 abbrev pub DriveStack : Type 0
 DriveStack = SetRequestId (OnEarlyDropService (ResponseBodyDeadline (Timeout (PropagateRequestId Inner))) NoteDrop NoteDrop) ByNumber
@@ -101,20 +113,26 @@ DriveBody = OnEarlyDropBody (DeadlineBody InnerBody) NoteDropped
 
 -- THE CALLS: each layer's meaning over that of the one below.
 
+abbrev pub caught_leaves : Caught → Recorded → Moment → Result Unit NoMemory → Recorded → Type 0
+caught_leaves = BoxLeaves ScriptLeaves LeavesNothing
+
+abbrev pub gate_validates : RequiredHeaderValue Caught → Request (Limited ScriptBody) Ext → Verdict Caught Ext → RequiredHeaderValue Caught → Request (Limited ScriptBody) Ext → Type 0
+gate_validates = RequiredValidates IsEmptyBox IsDefaultExt
+
 abbrev pub inner_calls : Inner → Request ScriptBody Ext → Recorded → Moment → Result InnerFuture NoMemory → Inner → Recorded → Type 0
-inner_calls = LimitCalls (CatchCalls ScriptCalls (LimitedLeaves ScriptLeaves)) ScriptLeaves
+inner_calls = LimitCalls (GateCalls (CatchCalls ScriptCalls (LimitedLeaves ScriptLeaves)) gate_validates (LimitedLeaves ScriptLeaves) caught_leaves) ScriptLeaves
 
 abbrev pub inner_polls : InnerFuture → Recorded → Moment → Reply InnerBody Ext (List ℕ) → InnerFuture → Recorded → Type 0
-inner_polls = LimitPolls (CatchPolls ScriptPolls (DefaultHandles IsDefaultExt)) IsDefaultExt
+inner_polls = LimitPolls (GatePolls (CatchPolls ScriptPolls (DefaultHandles IsDefaultExt))) IsDefaultExt
 
 abbrev pub inner_leaves : InnerFuture → Recorded → Moment → Result Unit NoMemory → Recorded → Type 0
-inner_leaves = LimitLeaves (CatchLeaves ScriptLeaves)
+inner_leaves = LimitLeaves (GateLeaves (CatchLeaves ScriptLeaves) caught_leaves)
 
 abbrev pub inner_frames : InnerBody → Recorded → Moment → Answer (List ℕ) (List ℕ) → InnerBody → Recorded → Type 0
 inner_frames = LimitBodyFrames (BoxFrames ScriptFrames (FullFrames {E = Infallible}))
 
 abbrev pub inner_body_leaves : InnerBody → Recorded → Moment → Result Unit NoMemory → Recorded → Type 0
-inner_body_leaves = LimitBodyLeaves (BoxLeaves ScriptLeaves LeavesNothing)
+inner_body_leaves = LimitBodyLeaves caught_leaves
 
 abbrev pub inner_ends : InnerBody → Bool
 inner_ends = limit_body_ends (box_ends tells_end full_ends)
@@ -122,17 +140,20 @@ inner_ends = limit_body_ends (box_ends tells_end full_ends)
 abbrev pub IsDefaultInner : InnerBody → Type 0
 IsDefaultInner = IsDefaultBody IsEmptyBox
 
+abbrev pub caught_may : Caught → Type 0
+caught_may = BoxMay (λ _. ⊤) (λ _. ⊤)
+
 abbrev pub StackMay : DriveStack → Type 0
-StackMay = SetMay (EarlyMay (DeadlineMay (TimeoutMay (PropagateMay (LimitMay (CatchMay (λ _. ⊤) (λ _. ⊤)))))) (λ _. ⊤) (λ _. ⊤)) (λ _. ⊤)
+StackMay = SetMay (EarlyMay (DeadlineMay (TimeoutMay (PropagateMay (LimitMay (GateMay (CatchMay (λ _. ⊤) (λ _. ⊤)) (λ _. ⊤) gate_validates (LimitedMay (λ _. ⊤)) caught_may))))) (λ _. ⊤) (λ _. ⊤)) (λ _. ⊤)
 
 abbrev pub FutureLive : DriveFuture → Type 0
-FutureLive = EarlyFutureLive (DeadlineFutureMay (TimeoutFutureLive (PropagateFutureMay (LimitFutureMay (CatchFutureLive (λ _. ⊤) (λ _. ⊤)))))) (λ _. ⊤)
+FutureLive = EarlyFutureLive (DeadlineFutureMay (TimeoutFutureLive (PropagateFutureMay (LimitFutureMay (GateFutureLive (CatchFutureLive (λ _. ⊤) (λ _. ⊤))))))) (λ _. ⊤)
 
 abbrev pub FutureMay : DriveFuture → Type 0
-FutureMay = EarlyFutureMay (DeadlineFutureMay (TimeoutFutureMay (PropagateFutureMay (LimitFutureMay (CatchFutureMay (λ _. ⊤)))))) (λ _. ⊤) (λ _. ⊤)
+FutureMay = EarlyFutureMay (DeadlineFutureMay (TimeoutFutureMay (PropagateFutureMay (LimitFutureMay (GateFutureMay (CatchFutureMay (λ _. ⊤)) caught_may))))) (λ _. ⊤) (λ _. ⊤)
 
 abbrev pub BodyMay : DriveBody → Type 0
-BodyMay = EarlyBodyMay (DeadlineBodyMay (LimitBodyMay (BoxMay (λ _. ⊤) (λ _. ⊤)))) (λ _. ⊤)
+BodyMay = EarlyBodyMay (DeadlineBodyMay (LimitBodyMay caught_may)) (λ _. ⊤)
 
 abbrev pub drive_calls : DriveStack → Request ScriptBody Ext → Recorded → Moment → Result DriveFuture NoMemory → DriveStack → Recorded → Type 0
 drive_calls = SetCalls (EarlyCalls (DeadlineCalls (TimeoutCalls (PropagateCalls inner_calls ScriptLeaves))) NotesFuture NotesStart ScriptLeaves) (NumberMakes ext_number) ext_id with_id ScriptLeaves
@@ -238,31 +259,27 @@ item_says (Some item) = then_says item.then
 
 abbrev pub decided_says : Decision → List PollItem → ℕ → Said Head BodyPlan (List ℕ)
 decided_says TooLarge polls k = reply_says too_large_reply
+decided_says Forbidden polls k = reply_says forbidden_reply
 decided_says (Panicked text) polls k = reply_says panic_reply
 decided_says Served polls k = item_says (slice_get polls k)
 
-abbrev pub service_says : Limits → ScriptView → ℕ → Said Head BodyPlan (List ℕ)
-service_says limits script k = decided_says (decision limits script) script.polls k
+abbrev pub service_says : Limits → Numbered → ℕ → Said Head BodyPlan (List ℕ)
+service_says limits script k = decided_says (decision limits script) script.script.polls k
 
-abbrev pub service_history : Limits → ScriptView → FutureHistory Head BodyPlan (List ℕ)
+abbrev pub service_history : Limits → Numbered → FutureHistory Head BodyPlan (List ℕ)
 service_history limits script = record {
   says = λ past t. service_says limits script (length past);
   events = λ past t. service_events limits script (length past);
   left = λ past t. [];
 }
 
--- a service that finds this script for its number, under the limit, with no panic kept
+-- a validator that asks for what the limits say
+abbrev pub AsksGate : Limits → RequiredHeaderValue Caught → Type 0
+AsksGate limits v = v ≡ required_of limits.gate_name limits.gate_value
+
+-- a service that finds this script for its number, under the limit and behind the gate, with no panic kept
 abbrev pub InnerServes : Limits → Numbered → Inner → Type 0
-InnerServes limits script = LimitServes limits.byte_limit (CatchServes (λ _. ⊤) (Finds script.script script.number))
-
-abbrev pub InnerStands : Limits → ScriptView → InnerFuture → Where → Type 0
-InnerStands limits script = LimitStands (is_too_large limits script) (CatchStands (λ _. ⊤) (ScriptStands (room limits script) script))
-
--- a scripted body, a plain text or none
-abbrev pub InnerBodyStands : BodyPlan → InnerBody → List ℕ → Type 0
-InnerBodyStands = LimitBodyStands script_body_history (BoxStands script_body_history ScriptBodyStands (FullStands script_body_history))
-
--- THE STACK: one part for each layer.
+InnerServes limits script = LimitServes limits.byte_limit (GateServes (AsksGate limits) (CatchServes (λ _. ⊤) (Finds script.script script.number)))
 
 -- a head with this status and these headers
 pub record TellsHead (h : Head) (head : ResponseHead Ext) : Type 0 where
@@ -272,6 +289,23 @@ pub record TellsHead (h : Head) (head : ResponseHead Ext) : Type 0 where
 -- the same, where the list is short enough for a map, as those of a valid scenario are
 abbrev pub Heads : Head → ResponseHead Ext → Type 0
 Heads h head = TellsHead h head × (length h.1 ≤ MAX_HEADER_VALUES)
+
+abbrev pub CaughtStands : BodyPlan → Caught → List ℕ → Type 0
+CaughtStands = BoxStands script_body_history ScriptBodyStands (FullStands script_body_history)
+
+abbrev pub forbidden_head : Head
+forbidden_head = (forbidden_reply.status, forbidden_reply.headers)
+
+abbrev pub InnerStands : Limits → Numbered → InnerFuture → Where → Type 0
+InnerStands limits script =
+    LimitStands (is_too_large limits script.script) (GateStands (is_shut limits script) Heads CaughtStands forbidden_head (body_plan forbidden_reply)
+    (CatchStands (λ _. ⊤) (ScriptStands (room limits script.script) script.script)))
+
+-- a scripted body, a plain text or none
+abbrev pub InnerBodyStands : BodyPlan → InnerBody → List ℕ → Type 0
+InnerBodyStands = LimitBodyStands script_body_history CaughtStands
+
+-- THE STACK: one part for each layer.
 
 -- what is said of a head once it has the id
 abbrev pub named : FieldValue → Head → Head
@@ -287,7 +321,7 @@ StackStands limits script =
 abbrev pub FutureStands : Limits → Numbered → ℕ → DriveFuture → Where → Type 0
 FutureStands limits script t0 =
     DropStands (noting drop_kind.Future t0) t0 (DeadlineStands limits.body_deadline (TimeoutStands (record { start = t0; length = limits.timeout }) limits.timeout_status
-    (PropagateStands x_request_id_name (Some (ident script)) (InnerStands limits script.script))))
+    (PropagateStands x_request_id_name (Some (ident script)) (InnerStands limits script))))
 
 -- the plan of a driven body: its response's head and time, and its items
 abbrev pub Plan : Type 0
@@ -297,7 +331,7 @@ abbrev pub future_history : Limits → Numbered → ℕ → FutureHistory Head P
 future_history limits script t0 =
     drop_history (λ t. drop_record drop_kind.Future (t - t0) ∷ [])
     (deadline_history (timeout_history (record { start = t0; length = limits.timeout }) (limits.timeout_status, []) (body_plan (due_reply limits))
-    (propagate_history (named (ident script)) (service_history limits script.script))))
+    (propagate_history (named (ident script)) (service_history limits script))))
 
 -- a body whose response was given at the time, with its plan
 abbrev pub timed_body_history : Limits → ℕ × BodyPlan → BodyHistory (List ℕ) (BodyError (List ℕ))

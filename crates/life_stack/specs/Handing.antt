@@ -1,5 +1,5 @@
 -- What is decided for a request before its script is asked, what its service is handed of the request's body, and what it records.
-use Rattle.std.specs.Prelude.{ℕ, zero, suc, ◌+◌, ◌-◌, List, [], ◌∷◌, ◌++◌, length, slice_get, Bool, true, false, if◌then◌else◌, nat_le, Option, Some, None, codes}
+use Rattle.std.specs.Prelude.{ℕ, zero, suc, ◌+◌, ◌-◌, List, [], ◌∷◌, ◌++◌, length, slice_get, Bool, true, false, not, if◌then◌else◌, nat_le, Option, Some, None, codes}
 use Rattle.http_header.specs.FieldValue.{plain_value}
 use Rattle.http_header.specs.HeaderMap.{Entries}
 use Rattle.life_core.specs.Fields.{fields}
@@ -10,6 +10,7 @@ use Rattle.life_core.specs.declared.event.Handed.TheVariants as handed
 use Rattle.life_core.specs.declared.event.Level.TheVariants as level
 use Rattle.life_core.specs.declared.fault.PanicText.{PanicText}
 use Rattle.life_core.specs.declared.fields.Shown.{Shown}
+use Rattle.life_gate.specs.Required.{matches_first}
 use Rattle.life_limit.specs.Length.{length_told}
 use Rattle.life_limit.specs.Limit.{is_above, room_of}
 use Rattle.life_script.specs.Headers.{Headers, first_value, map_of}
@@ -23,6 +24,7 @@ use Rattle.life_script.specs.declared.scenario.Limits.{Limits}
 use Rattle.life_script.specs.declared.scenario.PollItem.{PollItem}
 use Rattle.life_script.specs.declared.scenario.Then.{Then}
 use Rattle.life_script.specs.declared.scenario.Then.TheVariants as then_
+use Rattle.life_stack.specs.Ident.{Numbered, ident, identified}
 
 -- header fields as they are shown: each name once with its values in order, sorted by name
 abbrev pub shown_headers : Headers → Entries Shown
@@ -30,9 +32,10 @@ shown_headers headers = fields (map_of headers)
 
 -- THE DECISION.
 
--- a request's body is told to be too large, its service panics in the call, or it is served
+-- a request's body is told to be too large, the gate is shut to it, its service panics in the call, or it is served
 pub data Decision : Type 0 where
   TooLarge : Decision
+  Forbidden : Decision
   Panicked : PanicText → Decision
   Served : Decision
 
@@ -43,16 +46,26 @@ declared_by script = length_told (first_value (codes "content-length") script.he
 abbrev pub is_too_large : Limits → ScriptView → Bool
 is_too_large limits script = is_above limits.byte_limit (declared_by script)
 
+-- the headers that the layers under the one of ids see: with the request's id
+abbrev pub seen_headers : Numbered → Headers
+seen_headers script = identified (ident script) script.script.headers
+
+-- the gate's header has no value, or its first one is not the expected one
+abbrev pub is_shut : Limits → Numbered → Bool
+is_shut limits script = not (matches_first limits.gate_value (first_value limits.gate_name (seen_headers script)))
+
 abbrev pub called_by : CallItem → Decision
 called_by call_item.Serve = Served
 called_by (call_item.Panic text) = Panicked text
 
-abbrev pub decided : Bool → CallItem → Decision
-decided true call = TooLarge
-decided false call = called_by call
+-- the first that fits
+abbrev pub decided : Bool → Bool → CallItem → Decision
+decided true shut call = TooLarge
+decided false true call = Forbidden
+decided false false call = called_by call
 
-abbrev pub decision : Limits → ScriptView → Decision
-decision limits script = decided (is_too_large limits script) script.call
+abbrev pub decision : Limits → Numbered → Decision
+decision limits script = decided (is_too_large limits script.script) (is_shut limits script) script.script.call
 
 -- REPLIES that are not the script's.
 
@@ -70,6 +83,13 @@ too_large_reply = text_reply 413 (codes "length limit exceeded")
 
 abbrev pub panic_reply : ReplyView
 panic_reply = text_reply 500 (codes "Service panicked")
+
+-- a status alone: no headers, and a body without items that tells its end
+abbrev pub bare_reply : ℕ → ReplyView
+bare_reply status = record { status = status; headers = []; body = []; tells = true }
+
+abbrev pub forbidden_reply : ReplyView
+forbidden_reply = bare_reply 403
 
 -- WHAT IS HANDED.
 
@@ -138,11 +158,12 @@ served_events left script k = handed_from left script.body (asked_before script.
 
 abbrev pub decided_events : Decision → ℕ → ScriptView → ℕ → List Event
 decided_events TooLarge left script k = []
+decided_events Forbidden left script k = []
 decided_events (Panicked text) left script k = panic_event text ∷ []
 decided_events Served left script k = served_events left script k
 
-abbrev pub service_events : Limits → ScriptView → ℕ → List Event
-service_events limits script k = decided_events (decision limits script) (room limits script) script k
+abbrev pub service_events : Limits → Numbered → ℕ → List Event
+service_events limits script k = decided_events (decision limits script) (room limits script.script) script.script k
 
 -- how many bytes of a request's body were handed
 

@@ -32,11 +32,15 @@ use Rattle.life_stack.specs.Ident.{numbered}
 use Rattle.life_stack.specs.Story.{story}
 
 abbrev limits : Limits
-limits = record { timeout = 10; timeout_status = 408; body_deadline = 20; byte_limit = 5 }
+limits = record { timeout = 10; timeout_status = 408; body_deadline = 20; byte_limit = 5; gate_name = codes "x-gate"; gate_value = codes "open" }
 
--- a script with these poll items, and no headers and no body
+-- these headers, behind the one that lets a request through
+abbrev let_through : Headers → Headers
+let_through headers = (codes "x-gate", plain_value (codes "open")) ∷ headers
+
+-- a script with these poll items, which brings no other header and no body
 abbrev scripted : List PollItem → ScriptView
-scripted polls = record { headers = []; body = []; call = Serve; polls = polls }
+scripted polls = record { headers = let_through []; body = []; call = Serve; polls = polls }
 
 -- an item that asks for nothing
 abbrev at_once : Then → PollItem
@@ -131,7 +135,7 @@ handing got = event.Handed got
 
 -- a request that tells six bytes where five are allowed
 abbrev large : ScriptView
-large = record { headers = telling_length (codes "6"); body = []; call = Serve; polls = [] }
+large = record { headers = let_through (telling_length (codes "6")); body = []; call = Serve; polls = [] }
 
 too_large : story limits (numbered 0 large) ((0, act.Call) ∷ (1, act.Poll) ∷ (2, act.Poll) ∷ []) 2
     ≡ record {
@@ -143,7 +147,7 @@ too_large = refl
 -- one that tells five, and brings six in three pieces
 abbrev longer : ScriptView
 longer = record {
-  headers = telling_length (codes "+5");
+  headers = let_through (telling_length (codes "+5"));
   body = body_item.Chunk (codes "abc") ∷ body_item.Chunk (codes "de") ∷ body_item.Chunk (codes "f") ∷ [];
   call = Serve;
   polls = record { asks = 3; then = reply 200 [] true } ∷ [];
@@ -159,7 +163,7 @@ longer_than_told = refl
 
 -- one that tells nothing, and brings six in one piece
 abbrev in_one_piece : ScriptView
-in_one_piece = record { headers = []; body = body_item.Chunk (codes "abcdef") ∷ []; call = Serve; polls = record { asks = 2; then = then_.Pending } ∷ [] }
+in_one_piece = record { headers = let_through []; body = body_item.Chunk (codes "abcdef") ∷ []; call = Serve; polls = record { asks = 2; then = then_.Pending } ∷ [] }
 
 longer_than_allowed : story limits (numbered 0 in_one_piece) ((0, act.Call) ∷ (1, act.Poll) ∷ []) 1
     ≡ record {
@@ -171,7 +175,7 @@ longer_than_allowed = refl
 -- one that tells two, and brings three in two pieces
 abbrev two_told : ScriptView
 two_told = record {
-  headers = telling_length (codes "2");
+  headers = let_through (telling_length (codes "2"));
   body = body_item.Chunk (codes "ab") ∷ body_item.Chunk (codes "c") ∷ [];
   call = Serve;
   polls = record { asks = 2; then = then_.Pending } ∷ [];
@@ -188,7 +192,7 @@ length_told_is_the_room = refl
 
 -- a service that panics in the call
 abbrev panicking : ScriptView
-panicking = record { headers = []; body = []; call = call_item.Panic (Known (codes "boom")); polls = [] }
+panicking = record { headers = let_through []; body = []; call = call_item.Panic (Known (codes "boom")); polls = [] }
 
 panic_of_the_call : story limits (numbered 0 panicking) ((0, act.Call) ∷ (1, act.Poll) ∷ (2, act.Poll) ∷ []) 2
     ≡ record {
@@ -204,3 +208,22 @@ panic_of_a_poll : story limits (numbered 0 (scripted (at_once (then_.Panic Unkno
       at_end = event.Dropped (drop_kind.Body 500) (record { unit = Nanos; nanos = 1 }) ∷ [];
     }
 panic_of_a_poll = refl
+
+-- THE GATE.
+
+-- a script that brings these headers, and answers status 200 at its first poll
+abbrev bringing : Headers → ScriptView
+bringing headers = record { headers = headers; body = []; call = Serve; polls = at_once (reply 200 [] true) ∷ [] }
+
+-- what a request is told that is not let through
+abbrev told_forbidden : ℕ → List TurnView
+told_forbidden number = quiet ans.Called ∷ quiet (ans.Response 403 (own_id number ∷ []) true) ∷ []
+
+-- the first value decides
+shut_first : story limits (numbered 0 (bringing ((codes "x-gate", plain_value (codes "shut")) ∷ let_through []))) ((0, act.Call) ∷ (1, act.Poll) ∷ []) 1
+    ≡ record { turns = told_forbidden 0; at_end = [] }
+shut_first = refl
+
+no_value : story limits (numbered 0 (bringing [])) ((0, act.Call) ∷ (1, act.Poll) ∷ []) 1
+    ≡ record { turns = told_forbidden 0; at_end = [] }
+no_value = refl

@@ -8,7 +8,7 @@ use Rattle.life_core.specs.declared.event.DropKind.TheVariants as drop_kind
 use Rattle.life_core.specs.declared.latency.LatencyUnit.TheVariants.{Nanos}
 use Rattle.life_core.specs.declared.body.BodyError.TheVariants.{Elapsed, Inner}
 use Rattle.http_header.specs.FieldValue.{FieldValue}
-use Rattle.life_stack.specs.Handing.{Decision, TooLarge, Panicked, Served, decision, handed_bytes, panic_reply, service_events, shown_headers, too_large_reply}
+use Rattle.life_stack.specs.Handing.{Decision, TooLarge, Forbidden, Panicked, Served, bare_reply, decision, forbidden_reply, handed_bytes, panic_reply, service_events, shown_headers, too_large_reply}
 use Rattle.life_stack.specs.Ident.{Numbered, ident, identified}
 use Rattle.life_script.specs.ToldView.{TurnView, ToldView}
 use Rattle.life_script.specs.Views.{ReplyView}
@@ -66,11 +66,12 @@ first_outcome id (item ∷ items) = here_or_later (outcome_in id item.then) (fir
 -- the least index of a poll at which the service answers, were it asked at each: the first where the decision is not to serve
 abbrev pub decided_outcome : Decision → Numbered → Option (ℕ × Outcome)
 decided_outcome TooLarge script = Some (0, Replied (replied (ident script) too_large_reply))
+decided_outcome Forbidden script = Some (0, Replied (replied (ident script) forbidden_reply))
 decided_outcome (Panicked text) script = Some (0, Replied (replied (ident script) panic_reply))
 decided_outcome Served script = first_outcome (ident script) script.script.polls
 
 abbrev pub ready_outcome : Limits → Numbered → Option (ℕ × Outcome)
-ready_outcome limits script = decided_outcome (decision limits script.script) script
+ready_outcome limits script = decided_outcome (decision limits script) script
 
 -- the lesser of the two; the due case wins a tie
 abbrev pub earlier : Option ℕ → Option (ℕ × Outcome) → Outcome → Option (ℕ × Outcome)
@@ -83,9 +84,9 @@ abbrev pub counted : ℕ → Option (ℕ × Outcome) → Option (ℕ × Outcome)
 counted n None = None
 counted n (Some (k, o)) = if nat_lt k n then Some (k, o) else None
 
--- what a due poll answers: the timeout's status, no headers, and a body without items that tells its end
+-- what a due poll answers: the timeout's status alone
 abbrev pub due_reply : Limits → ReplyView
-due_reply limits = record { status = limits.timeout_status; headers = []; body = []; tells = true }
+due_reply limits = bare_reply limits.timeout_status
 
 abbrev pub head : Limits → Numbered → ℕ → List ℕ → Option (ℕ × Outcome)
 head limits script t0 ps = counted (length ps) (earlier (first_due t0 limits.timeout ps) (ready_outcome limits script) (Replied (due_reply limits)))
@@ -211,7 +212,7 @@ drops limits script acts d = drops_at (called_at acts) (answers limits script ac
 
 -- poll k at time t reaches the service where its timer is not due
 abbrev pub undue_events : Limits → Numbered → ℕ → ℕ → ℕ → List Event
-undue_events limits script t0 k t = if due t0 limits.timeout t then [] else service_events limits script.script k
+undue_events limits script t0 k t = if due t0 limits.timeout t then [] else service_events limits script k
 
 -- the service is polled up to the head
 abbrev pub poll_events : Limits → Numbered → ℕ → ℕ → ℕ → Option (ℕ × Outcome) → List Event

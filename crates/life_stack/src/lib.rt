@@ -7,6 +7,8 @@ mod due;
 mod exchange;
 mod exchanges;
 mod ext;
+#[cfg(test)]
+mod fixtures;
 mod intake;
 mod live;
 mod report;

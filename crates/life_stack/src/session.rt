@@ -10,7 +10,7 @@ ghost use Rattle.life_stack.specs.SessionView.{IsBegun, IsNext, IsSession};
 use crate::exchange::Exchange;
 use crate::exchanges::{begin_all, count_steps, leave_all, run_step, tell_all};
 use crate::stack::{DriveStack, share, stack_over};
-use life_core::{Got, NoMemory};
+use life_core::{Got, NoMemory, Twin};
 use life_script::{Act, DriveError, Limits, Scenario, Scripts, Steps, Told, ToldList, check};
 use std::alloc::Global;
 use std::marker::Model;
@@ -118,10 +118,12 @@ fn begin_valid(alloc: Global, limits: &Limits, scenario: &Scenario) -> Got<Sessi
     let steps = scenario.steps.twin_items(alloc)?;
     let mut told = ToldList::new(alloc);
     told.reserve(requests)?;
+    let own_limits = limits.twin(alloc)?;
+    let stack = stack_over(alloc, limits, shared)?;
     let exchanges = begin_all(alloc, counts.as_slice())?;
     Ok(Session {
-        limits: *limits,
-        stack: stack_over(limits, shared),
+        limits: own_limits,
+        stack,
         scripts,
         steps,
         end: scenario.end,

@@ -20,9 +20,10 @@ use http::HeaderName;
 use http_body::Frame;
 use life_core::{
     Body, BodyError, Cx, Full, Future, Got, NoMemory, Poll, Recorder, Request, Response, Service,
-    Spend, Text, UnsyncBoxBody,
+    Spend, Text, Twin, UnsyncBoxBody,
 };
 use life_drop::on_early_drop::{NoteDrop, NoteDropped, OnEarlyDropBody, OnEarlyDropService};
+use life_gate::validate_request::{RequiredHeaderValue, ValidateRequestHeader};
 use life_head::request_id::{ByNumber, Number, PropagateRequestId, SetRequestId};
 use life_limit::catch_panic::{CatchPanic, DefaultResponseForPanic};
 use life_limit::limit::{RequestBodyLimit, ResponseBody};
@@ -40,10 +41,13 @@ pub type DriveStack = SetRequestId<Watched, ByNumber>;
 type Watched = OnEarlyDropService<ResponseBodyDeadline<Timeout<Named>>, NoteDrop, NoteDrop>;
 
 /// The scripted service, bounded and guarded, under the id of each response.
-type Named = PropagateRequestId<RequestBodyLimit<Guarded>>;
+type Named = PropagateRequestId<RequestBodyLimit<Gated>>;
 
-/// The scripted service, its panics caught.
-type Guarded = CatchPanic<ScriptService, DefaultResponseForPanic>;
+/// The scripted service, its panics caught, behind a gate.
+type Gated = ValidateRequestHeader<
+    CatchPanic<ScriptService, DefaultResponseForPanic>,
+    RequiredHeaderValue<UnsyncBoxBody<ScriptBody, Full>>,
+>;
 
 /// The future of a driven request.
 pub type DriveFuture<L> = <DriveStack as Service<Request<ScriptBody, Ext>, L>>::Future;
@@ -54,20 +58,24 @@ pub type DriveBody = OnEarlyDropBody<
     NoteDropped,
 >;
 
-/// The stack with these limits over a service of these scripts.
-pub(crate) fn stack_over(limits: &Limits, scripts: Rc<Scripts>) -> DriveStack
-    ensures stands { (script : ScriptView) (i : ℕ) → slice_get scripts.value.items i ≡ Some script → ScriptFits script → StackStands limits.now (numbered i script) result }
-    ensures may { StackMay result }
+/// The stack with these limits over a service of these scripts. The one error is want of memory.
+pub(crate) fn stack_over(alloc: Global, limits: &Limits, scripts: Rc<Scripts>) -> Got<DriveStack>
+    ensures stands { (script : ScriptView) (i : ℕ) → slice_get scripts.value.items i ≡ Some script → ScriptFits script → IfOk result (StackStands limits.now (numbered i script)) }
+    ensures may { IfOk result StackMay }
 {
+    let gate_name = limits.gate_name.twin(alloc)?;
+    let gate_value = limits.gate_value.twin(alloc)?;
+    let gate = RequiredHeaderValue::new(gate_name, gate_value);
     let name = HeaderName::from_static("x-request-id");
     let service = CatchPanic::new(ScriptService::new(scripts));
+    let service = ValidateRequestHeader::custom(service, gate);
     let service = RequestBodyLimit::new(service, limits.byte_limit);
     let service = PropagateRequestId::new(service, name);
     let service = Timeout::with_status_code(service, limits.timeout_status, limits.timeout);
     let service = ResponseBodyDeadline::new(service, limits.body_deadline);
     let service = OnEarlyDropService::new(service, NoteDrop::new(), NoteDrop::new());
     let name = HeaderName::from_static("x-request-id");
-    SetRequestId::new(service, name, ByNumber)
+    Ok(SetRequestId::new(service, name, ByNumber))
 }
 
 /// The stack with these limits over a service of a valid scenario's scripts, each of which it serves by its
@@ -78,7 +86,10 @@ pub fn drive_stack(alloc: Global, limits: &Limits, scenario: &Scenario) -> Got<D
     ensures may { IfOk result StackMay }
 {
     let scripts = share(alloc, &scenario.requests)?;
-    Ok(stack_over(limits, scripts))
+    match stack_over(alloc, limits, scripts) {
+        Ok(stack) => Ok(stack),
+        Err(no_memory) => Err(no_memory),
+    }
 }
 
 /// Twins of scripts, to be shared. The one error is want of memory.

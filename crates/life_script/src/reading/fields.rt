@@ -1,7 +1,7 @@
 //! What stands at the keys of an object.
 ghost use Rattle.std.specs.Prelude.{◌≡◌, codes, map, option_map};
 ghost use Rattle.serde_json.specs.View.{view};
-ghost use Rattle.life_script.specs.Reading.{has, number_at, status_at, asks_at, is_null_at, items_in, items_at, is_string};
+ghost use Rattle.life_script.specs.Reading.{has, number_at, string_at, status_at, asks_at, is_null_at, items_in, items_at, is_string};
 
 use http::StatusCode;
 use serde_json::Value;
@@ -21,6 +21,13 @@ pub fn number_at(value: &Value, key: &str) -> Option<u64>
     ensures { result ≡ number_at key.now (view value.now) }
 {
     value.get(key)?.as_u64()
+}
+
+/// The text of the string at a key.
+pub fn string_at<'v>(value: &'v Value, key: &str) -> Option<&'v str>
+    ensures { option_map (λ text. text.now) result ≡ string_at key.now (view value.now) }
+{
+    value.get(key)?.as_str()
 }
 
 /// The status at a key.

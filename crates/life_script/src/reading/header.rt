@@ -12,7 +12,7 @@ use serde_json::Value;
 use std::alloc::Global;
 
 /// The header name that a text is, or none where it is no name.
-fn read_name(alloc: Global, text: &str) -> Result<Option<HeaderName>, ReadError>
+pub fn read_name(alloc: Global, text: &str) -> Result<Option<HeaderName>, ReadError>
     ensures ok { IfOk result (λ name. name ≡ name_of text.now) }
     ensures err { IfErr result (λ e. e ≡ ReadError.NoMemory) }
 {

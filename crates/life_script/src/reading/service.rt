@@ -5,7 +5,7 @@ ghost use Rattle.life_script.specs.Reading.{Bad, built, headers_at, text_at, chu
 
 use crate::error::ReadError;
 use crate::headers::HeaderList;
-use crate::reading::fields::{asks_at, has, is_null_at, is_string, status_at};
+use crate::reading::fields::{asks_at, has, is_null_at, is_string, status_at, string_at};
 use crate::reading::part::{Built, Part, read_all_at};
 use crate::scenario::{BodyItem, BodyItems, CallItem, PollItem, PollItems, Reply, Script, Then};
 use http::{HeaderName, HeaderValue};
@@ -31,7 +31,7 @@ fn read_text_at(alloc: Global, value: &Value, key: &str) -> Built<Text>
     ensures bad { result ≡ Err ReadError.BadScenario → text_at key.now (view value.now) ≡ Bad }
     ensures never { ¬ (result ≡ Err ReadError.NotBuilt) }
 {
-    let Some(text) = value.get(key).and_then(Value::as_str) else {
+    let Some(text) = string_at(value, key) else {
         return Err(ReadError::BadScenario);
     };
     match Text::copy(alloc, text) {
@@ -46,7 +46,7 @@ fn read_chunk(alloc: Global, value: &Value) -> Built<BodyItem>
     ensures bad { result ≡ Err ReadError.BadScenario → chunk_part (view value.now) ≡ Bad }
     ensures never { ¬ (result ≡ Err ReadError.NotBuilt) }
 {
-    let Some(text) = value.get("data").and_then(Value::as_str) else {
+    let Some(text) = string_at(value, "data") else {
         return Err(ReadError::BadScenario);
     };
     match Octets::copy(alloc, text.as_bytes()) {

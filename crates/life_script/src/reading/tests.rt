@@ -7,7 +7,7 @@ use std::process::Abort;
 use std::test::Fail;
 
 const GOOD: &str =
-    r#"{"version":1,"limits":{"timeout":10,"timeout_status":408,"body_deadline":20,"byte_limit":64},"requests":[{"headers":[["X-Id","7"]],"body":[{"data":"in"}],"call":"serve","polls":[{"asks":2,"then":{"respond":{"status":200,"headers":[["a","b"]],"body":[{"data":"hi"}],"tells":true}}}]}],"steps":[[0,0,"call"],[3,0,"poll"],[4,0,"poll"],[5,0,"drop"]],"end":5}"#;
+    r#"{"version":1,"limits":{"timeout":10,"timeout_status":408,"body_deadline":20,"byte_limit":64,"gate_name":"X-Gate","gate_value":"open"},"requests":[{"headers":[["X-Id","7"]],"body":[{"data":"in"}],"call":"serve","polls":[{"asks":2,"then":{"respond":{"status":200,"headers":[["a","b"]],"body":[{"data":"hi"}],"tells":true}}}]}],"steps":[[0,0,"call"],[3,0,"poll"],[4,0,"poll"],[5,0,"drop"]],"end":5}"#;
 
 fn kind(alloc: Global, bytes: &[u8]) -> &'static str {
     match read_scenario(alloc, bytes) {
@@ -25,6 +25,8 @@ fn reads_limits(rt: HostRuntime) -> Result<(), Fail> {
     assert_eq!(rt; limits.timeout_status.as_u16(), 408);
     assert_eq!(rt; limits.body_deadline, 20);
     assert_eq!(rt; limits.byte_limit, 64);
+    assert_eq!(rt; limits.gate_name.as_str(), "x-gate");
+    assert_eq!(rt; limits.gate_value.as_str(), "open");
     Ok(())
 }
 
@@ -109,8 +111,6 @@ fn tells_bad_from_not_built(rt: HostRuntime) -> Result<(), Fail> {
         ("\"polls\":[", "\"uri\":1,\"polls\":[1,", "bad"),
         ("\"polls\"", "\"method\":1,\"polls\"", "not built"),
         ("\"requests\":[", "\"requests\":[],\"others\":[", "good"),
-        ("\"timeout\"", "\"gate_name\":1,\"timeout\"", "not built"),
-        ("\"timeout\"", "\"gate_value\":1,\"timeout\"", "not built"),
         ("\"timeout\"", "\"classifier\":1,\"timeout\"", "not built"),
         ("\"timeout\"", "\"span_headers\":1,\"timeout\"", "not built"),
     ];
@@ -131,6 +131,31 @@ fn reads_as(
 ) -> Result<(), Fail> {
     let text = GOOD.replacen(alloc, part, other, 1)?;
     assert_eq!(*rt; kind(alloc, text.as_bytes()), want, "{other}");
+    Ok(())
+}
+
+#[test]
+fn reads_gates(rt: HostRuntime) -> Result<(), Fail> {
+    let cases = [
+        (r#","gate_name":"a","gate_value":"""#, "good"),
+        (r#","gate_name":"a","gate_value":"\n""#, "good"),
+        (r#","gate_name":"","gate_value":"open""#, "bad"),
+        (r#","gate_name":"a b","gate_value":"open""#, "bad"),
+        (r#","gate_name":1,"gate_value":"open""#, "bad"),
+        (r#","gate_name":"a","gate_value":1"#, "bad"),
+        (r#","gate_value":"open""#, "bad"),
+        (r#","gate_name":"a""#, "bad"),
+        (r#","gate_name":"a","classifier":1"#, "bad"),
+    ];
+    for (gate, want) in cases {
+        reads_as(
+            &rt,
+            rt.alloc(),
+            r#","gate_name":"X-Gate","gate_value":"open""#,
+            gate,
+            want,
+        )?;
+    }
     Ok(())
 }
 

@@ -1,11 +1,12 @@
 //! Whole texts of driven scenarios.
 use super::report_text;
 use crate::driving::drive;
+use crate::fixtures::{let_through, limits};
 use http::StatusCode;
 use life_core::{Got, List, Octets};
 use life_script::{
-    Act, BodyItem, CallItem, DriveError, HeaderList, Limits, PollItem, PollItems, Reply, Scenario,
-    Script, Step, Then,
+    Act, BodyItem, CallItem, DriveError, HeaderList, PollItem, PollItems, Reply, Scenario, Script,
+    Step, Then,
 };
 use std::alloc::Global;
 use std::test::Fail;
@@ -28,7 +29,7 @@ fn script(alloc: Global, status: Option<StatusCode>) -> Got<Script> {
         })?;
     }
     Ok(Script {
-        headers: HeaderList::new(alloc),
+        headers: let_through(alloc)?,
         body: List::new(alloc),
         call: CallItem::Serve,
         polls,
@@ -53,11 +54,8 @@ fn two(alloc: Global, made: &[(u64, u64, Act)], end: u64) -> Got<Scenario> {
 
 /// The text of the report of this scenario.
 fn text_of(alloc: Global, scenario: &Scenario) -> Result<Octets, DriveError> {
-    let limits = Limits {
-        timeout: 10,
-        timeout_status: StatusCode::REQUEST_TIMEOUT,
-        body_deadline: 20,
-        byte_limit: 5,
+    let Ok(limits) = limits(alloc) else {
+        return Err(DriveError::NoMemory);
     };
     let report = drive(alloc, &limits, scenario)?;
     match report_text(alloc, &report) {

@@ -8,14 +8,14 @@ use std::test::Fail;
 
 /// A request that is answered with status 200 and a body of one piece.
 const HI: &str =
-    r#"{"headers":[],"body":[],"call":"serve","polls":[{"asks":0,"then":{"respond":{"status":200,"headers":[],"body":[{"data":"hi"}],"tells":true}}}]}"#;
+    r#"{"headers":[["x-gate","open"]],"body":[],"call":"serve","polls":[{"asks":0,"then":{"respond":{"status":200,"headers":[],"body":[{"data":"hi"}],"tells":true}}}]}"#;
 
 /// A request that is answered with status 200 and no body.
 const READY: &str =
-    r#"{"headers":[],"body":[],"call":"serve","polls":[{"asks":0,"then":{"respond":{"status":200,"headers":[],"body":[],"tells":true}}}]}"#;
+    r#"{"headers":[["x-gate","open"]],"body":[],"call":"serve","polls":[{"asks":0,"then":{"respond":{"status":200,"headers":[],"body":[],"tells":true}}}]}"#;
 
 /// A request that is never answered.
-const SILENT: &str = r#"{"headers":[],"body":[],"call":"serve","polls":[]}"#;
+const SILENT: &str = r#"{"headers":[["x-gate","open"]],"body":[],"call":"serve","polls":[]}"#;
 
 /// Steps that read that body to its end.
 const READ: &str = r#"[[0,0,"call"],[3,0,"poll"],[4,0,"poll"],[5,0,"drop"]]"#;
@@ -55,9 +55,10 @@ fn strings(alloc: Global, words: &[&str]) -> Got<Vec<String>> {
     Ok(strings)
 }
 
-/// A scenario with these requests, a timeout of 10, a deadline of 20 and a limit of 5 bytes.
+/// A scenario with these requests, a timeout of 10, a deadline of 20, a limit of 5 bytes and the gate `x-gate: open`.
 fn scenario(alloc: Global, requests: &str, steps: &str, end: u64) -> Got<String> {
-    let limits = r#"{"timeout":10,"timeout_status":408,"body_deadline":20,"byte_limit":5}"#;
+    let limits =
+        r#"{"timeout":10,"timeout_status":408,"body_deadline":20,"byte_limit":5,"gate_name":"x-gate","gate_value":"open"}"#;
     let text = format!(in alloc;
         "{{\"version\":1,\"limits\":{limits},\"requests\":[{requests}],\"steps\":{steps},\"end\":{end}}}"
     )?;
@@ -151,7 +152,7 @@ fn driven_scenarios(rt: HostRuntime) -> Result<(), Fail> {
         ),
         (
             "two requests",
-            r#"{"headers":[],"body":[],"call":"serve","polls":[{"asks":0,"then":{"respond":{"status":200,"headers":[],"body":[],"tells":true}}}]},{"headers":[],"body":[],"call":"serve","polls":[{"asks":0,"then":{"respond":{"status":200,"headers":[],"body":[],"tells":true}}}]}"#,
+            r#"{"headers":[["x-gate","open"]],"body":[],"call":"serve","polls":[{"asks":0,"then":{"respond":{"status":200,"headers":[],"body":[],"tells":true}}}]},{"headers":[["x-gate","open"]],"body":[],"call":"serve","polls":[{"asks":0,"then":{"respond":{"status":200,"headers":[],"body":[],"tells":true}}}]}"#,
             r#"[[0,0,"call"],[1,1,"call"],[2,1,"poll"],[3,0,"poll"]]"#,
             3,
             "step 0 at 0 request 0 call: called\nstep 1 at 1 request 1 call: called\nstep 2 at 2 request 1 poll: response 200 ended {x-request-id: [\"1\"]}\nstep 3 at 3 request 0 poll: response 200 ended {x-request-id: [\"0\"]}\ntotal: 2 requests, 4 steps, end 3\n",
@@ -164,9 +165,9 @@ fn driven_scenarios(rt: HostRuntime) -> Result<(), Fail> {
 #[test]
 fn early_drops(rt: HostRuntime) -> Result<(), Fail> {
     let waits =
-        r#"{"headers":[],"body":[],"call":"serve","polls":[{"asks":0,"then":{"respond":{"status":201,"headers":[],"body":["pending"],"tells":false}}}]}"#;
+        r#"{"headers":[["x-gate","open"]],"body":[],"call":"serve","polls":[{"asks":0,"then":{"respond":{"status":201,"headers":[],"body":["pending"],"tells":false}}}]}"#;
     let tells =
-        r#"{"headers":[],"body":[],"call":"serve","polls":[{"asks":0,"then":{"respond":{"status":201,"headers":[],"body":["pending"],"tells":true}}}]}"#;
+        r#"{"headers":[["x-gate","open"]],"body":[],"call":"serve","polls":[{"asks":0,"then":{"respond":{"status":201,"headers":[],"body":["pending"],"tells":true}}}]}"#;
     let rows = [
         (
             "dropped while its body waits",
@@ -197,11 +198,11 @@ fn early_drops(rt: HostRuntime) -> Result<(), Fail> {
 #[test]
 fn faults_and_headers(rt: HostRuntime) -> Result<(), Fail> {
     let fails =
-        r#"{"headers":[],"body":[],"call":"serve","polls":[{"asks":0,"then":{"fail":"boom"}}]}"#;
+        r#"{"headers":[["x-gate","open"]],"body":[],"call":"serve","polls":[{"asks":0,"then":{"fail":"boom"}}]}"#;
     let faults =
-        r#"{"headers":[],"body":[],"call":"serve","polls":[{"asks":0,"then":{"respond":{"status":200,"headers":[],"body":[{"fault":"bad"}],"tells":false}}}]}"#;
+        r#"{"headers":[["x-gate","open"]],"body":[],"call":"serve","polls":[{"asks":0,"then":{"respond":{"status":200,"headers":[],"body":[{"fault":"bad"}],"tells":false}}}]}"#;
     let trailers =
-        r#"{"headers":[],"body":[],"call":"serve","polls":[{"asks":0,"then":{"respond":{"status":200,"headers":[["x-request-id","foo"],["b","2"],["B","1"]],"body":[{"trailers":[["b","2"],["a","1"]]}],"tells":true}}}]}"#;
+        r#"{"headers":[["x-gate","open"]],"body":[],"call":"serve","polls":[{"asks":0,"then":{"respond":{"status":200,"headers":[["x-request-id","foo"],["b","2"],["B","1"]],"body":[{"trailers":[["b","2"],["a","1"]]}],"tells":true}}}]}"#;
     let rows = [
         (
             "a service error",
@@ -219,14 +220,14 @@ fn faults_and_headers(rt: HostRuntime) -> Result<(), Fail> {
         ),
         (
             "an id of the service's own",
-            r#"{"headers":[],"body":[],"call":"serve","polls":[{"asks":0,"then":{"respond":{"status":200,"headers":[["x-request-id","foo"]],"body":[],"tells":true}}}]}"#,
+            r#"{"headers":[["x-gate","open"]],"body":[],"call":"serve","polls":[{"asks":0,"then":{"respond":{"status":200,"headers":[["x-request-id","foo"]],"body":[],"tells":true}}}]}"#,
             r#"[[0,0,"call"],[1,0,"poll"]]"#,
             1,
             "step 0 at 0 request 0 call: called\nstep 1 at 1 request 0 poll: response 200 ended {x-request-id: [\"foo\"]}\ntotal: 1 requests, 2 steps, end 1\n",
         ),
         (
             "an id that the request brings",
-            r#"{"headers":[["a","1"],["X-Request-Id","bar"],["x-request-id","baz"]],"body":[],"call":"serve","polls":[{"asks":0,"then":{"respond":{"status":200,"headers":[],"body":[],"tells":true}}}]}"#,
+            r#"{"headers":[["x-gate","open"],["a","1"],["X-Request-Id","bar"],["x-request-id","baz"]],"body":[],"call":"serve","polls":[{"asks":0,"then":{"respond":{"status":200,"headers":[],"body":[],"tells":true}}}]}"#,
             r#"[[0,0,"call"],[1,0,"poll"]]"#,
             1,
             "step 0 at 0 request 0 call: called\nstep 1 at 1 request 0 poll: response 200 ended {x-request-id: [\"bar\"]}\ntotal: 1 requests, 2 steps, end 1\n",
@@ -243,18 +244,60 @@ fn faults_and_headers(rt: HostRuntime) -> Result<(), Fail> {
     Ok(())
 }
 
+#[test]
+fn gates(rt: HostRuntime) -> Result<(), Fail> {
+    let shut =
+        r#"{"headers":[["x-gate","shut"],["x-gate","open"]],"body":[],"call":{"panic":"boom"},"polls":[]}"#;
+    let missing = r#"{"headers":[],"body":[{"data":"x"}],"call":"serve","polls":[]}"#;
+    let forbidden =
+        "step 0 at 0 request 0 call: called\nstep 1 at 1 request 0 poll: response 403 ended {x-request-id: [\"0\"]}\ntotal: 1 requests, 2 steps, end 1\n";
+    let once = r#"[[0,0,"call"],[1,0,"poll"]]"#;
+    let rows = [
+        ("the first value is another", shut, once, 1, forbidden),
+        ("no value", missing, once, 1, forbidden),
+    ];
+    report(&rt, &rows)?;
+    Ok(())
+}
+
+#[test]
+fn gate_over_an_id(rt: HostRuntime) -> Result<(), Fail> {
+    let request =
+        r#"{"headers":[],"body":[],"call":"serve","polls":[{"asks":0,"then":{"respond":{"status":200,"headers":[],"body":[],"tells":true}}}]}"#;
+    let alloc = rt.alloc();
+    let requests = format!(in alloc; "{request},{request},{request},{request}")?;
+    let text = scenario(
+        alloc,
+        requests.as_str(),
+        r#"[[0,3,"call"],[1,3,"poll"],[2,2,"call"],[3,2,"poll"]]"#,
+        3,
+    )?;
+    let text = text.replacen(alloc, "\"x-gate\"", "\"x-request-id\"", 1)?;
+    let text = text.replacen(alloc, "\"open\"", "\"3\"", 1)?;
+    let want =
+        "step 0 at 0 request 3 call: called\nstep 1 at 1 request 3 poll: response 200 ended {x-request-id: [\"3\"]}\nstep 2 at 2 request 2 call: called\nstep 3 at 3 request 2 poll: response 403 ended {x-request-id: [\"2\"]}\ntotal: 4 requests, 4 steps, end 3\n";
+    always_ends_with(
+        &rt,
+        "the id of a request",
+        text.as_bytes(),
+        (Status::Done, want),
+    )?;
+    Ok(())
+}
+
 /// Headers of a plain text with the id of request 0.
 const TEXT: &str = "{content-type: [\"text/plain; charset=utf-8\"], x-request-id: [\"0\"]}";
 
 #[test]
 fn bodies_of_requests(rt: HostRuntime) -> Result<(), Fail> {
-    let large = r#"{"headers":[["content-length","6"]],"body":[],"call":"serve","polls":[]}"#;
+    let large =
+        r#"{"headers":[["x-gate","open"],["content-length","6"]],"body":[],"call":"serve","polls":[]}"#;
     let longer =
-        r#"{"headers":[["content-length","+5"]],"body":[{"data":"abc"},{"data":"de"},{"data":"f"}],"call":"serve","polls":[{"asks":3,"then":{"respond":{"status":200,"headers":[],"body":[],"tells":true}}}]}"#;
+        r#"{"headers":[["x-gate","open"],["content-length","+5"]],"body":[{"data":"abc"},{"data":"de"},{"data":"f"}],"call":"serve","polls":[{"asks":3,"then":{"respond":{"status":200,"headers":[],"body":[],"tells":true}}}]}"#;
     let one_piece =
-        r#"{"headers":[],"body":[{"data":"abcdef"}],"call":"serve","polls":[{"asks":2,"then":"pending"}]}"#;
+        r#"{"headers":[["x-gate","open"]],"body":[{"data":"abcdef"}],"call":"serve","polls":[{"asks":2,"then":"pending"}]}"#;
     let two_told =
-        r#"{"headers":[["content-length","2"]],"body":[{"data":"ab"},{"data":"c"}],"call":"serve","polls":[{"asks":2,"then":"pending"}]}"#;
+        r#"{"headers":[["x-gate","open"],["content-length","2"]],"body":[{"data":"ab"},{"data":"c"}],"call":"serve","polls":[{"asks":2,"then":"pending"}]}"#;
     let once = r#"[[0,0,"call"],[1,0,"poll"]]"#;
     let text = format!(in rt.alloc();
         "step 0 at 0 request 0 call: called\nstep 1 at 1 request 0 poll: response 413 open {TEXT}\nstep 2 at 2 request 0 poll: data \"length limit exceeded\" ended\ntotal: 1 requests, 3 steps, end 2\n"
@@ -298,14 +341,14 @@ fn all_that_is_handed(rt: HostRuntime) -> Result<(), Fail> {
     let rows = [
         (
             "over two polls",
-            r#"{"headers":[],"body":[{"trailers":[["b","2"],["a","1"]]},"pending",{"fault":"bad"},{"data":"x"}],"call":"serve","polls":[{"asks":1,"then":"pending"},{"asks":4,"then":{"fail":"boom"}}]}"#,
+            r#"{"headers":[["x-gate","open"]],"body":[{"trailers":[["b","2"],["a","1"]]},"pending",{"fault":"bad"},{"data":"x"}],"call":"serve","polls":[{"asks":1,"then":"pending"},{"asks":4,"then":{"fail":"boom"}}]}"#,
             r#"[[0,0,"call"],[1,0,"poll"],[2,0,"poll"]]"#,
             2,
             "step 0 at 0 request 0 call: called\nstep 1 at 1 request 0 poll: pending\n  handed trailers {a: [\"1\"], b: [\"2\"]}\nstep 2 at 2 request 0 poll: error \"boom\"\n  handed pending\n  handed fault inner \"bad\"\n  handed data \"x\"\n  handed end\ntotal: 1 requests, 3 steps, end 2\n",
         ),
         (
             "nothing at a poll that is due",
-            r#"{"headers":[],"body":[{"data":"x"}],"call":"serve","polls":[{"asks":1,"then":"pending"}]}"#,
+            r#"{"headers":[["x-gate","open"]],"body":[{"data":"x"}],"call":"serve","polls":[{"asks":1,"then":"pending"}]}"#,
             r#"[[0,0,"call"],[10,0,"poll"]]"#,
             10,
             "step 0 at 0 request 0 call: called\nstep 1 at 10 request 0 poll: response 408 ended {}\ntotal: 1 requests, 2 steps, end 10\n",
@@ -318,9 +361,9 @@ fn all_that_is_handed(rt: HostRuntime) -> Result<(), Fail> {
 #[test]
 fn panics(rt: HostRuntime) -> Result<(), Fail> {
     let at_call =
-        r#"{"headers":[],"body":[],"call":{"panic":"boom"},"polls":[{"asks":1,"then":"pending"}]}"#;
+        r#"{"headers":[["x-gate","open"]],"body":[],"call":{"panic":"boom"},"polls":[{"asks":1,"then":"pending"}]}"#;
     let at_poll =
-        r#"{"headers":[],"body":[],"call":"serve","polls":[{"asks":0,"then":{"panic":null}}]}"#;
+        r#"{"headers":[["x-gate","open"]],"body":[],"call":"serve","polls":[{"asks":0,"then":{"panic":null}}]}"#;
     let first = format!(in rt.alloc();
         "step 0 at 0 request 0 call: called\nstep 1 at 1 request 0 poll: response 500 open {TEXT}\n  panic ERROR \"boom\"\nstep 2 at 2 request 0 poll: data \"Service panicked\" ended\ntotal: 1 requests, 3 steps, end 2\n"
     )?;

@@ -2,6 +2,7 @@
 ghost use Rattle.life_stack.specs.Driven.{BodyMay, StackMay};
 
 use super::*;
+use crate::fixtures::{let_through, limits};
 use http::StatusCode;
 use life_core::{List, Log};
 use life_script::{CallItem, HeaderList, PollItem, Reply, Script, Then, check};
@@ -21,7 +22,7 @@ fn scenario(alloc: Global) -> Got<Scenario> {
     })?;
     let mut requests = List::new(alloc);
     requests.push(Script {
-        headers: HeaderList::new(alloc),
+        headers: let_through(alloc)?,
         body: List::new(alloc),
         call: CallItem::Serve,
         polls,
@@ -72,12 +73,7 @@ fn first_answer(
 #[test]
 fn call_by_call(rt: HostRuntime) -> Result<(), Fail> {
     let alloc = rt.alloc();
-    let limits = Limits {
-        timeout: 10,
-        timeout_status: StatusCode::REQUEST_TIMEOUT,
-        body_deadline: 20,
-        byte_limit: 5,
-    };
+    let limits = limits(alloc)?;
     let scenario = scenario(alloc)?;
     check(&scenario)?;
     assert!(rt; 0 < scenario.requests.len());

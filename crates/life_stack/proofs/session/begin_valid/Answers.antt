@@ -3,9 +3,12 @@ use Rattle.std.specs.List.{AllZip}
 use Rattle.std.specs.Prelude.{slice_get, ◌<◌}
 use Rattle.life_script.specs.ScriptView.{ScenarioView, ScriptView}
 use Rattle.life_script.specs.Valid.{IsValid}
+use Rattle.life_script.specs.declared.scenario.Limits.{Limits}
 use Rattle.life_script.specs.declared.scenario.Step.{Step}
 use Rattle.life_script.proofs.CheckLemmas.{valid_headers, valid_requests}
+use Rattle.life_stack.specs.Driven.{DriveStack, StackStands}
 use Rattle.life_stack.specs.Exchanged.{IsFresh}
+use Rattle.life_stack.specs.Ident.{numbered}
 use Rattle.life_stack.specs.SessionView.{Counts}
 use Rattle.life_stack.proofs.Places.{zip_length}
 use Rattle.life_stack.proofs.Sessions.{session_begun}
@@ -30,9 +33,13 @@ invariant_of-result c =
     let counted : Counts c.len-requests.result steps c.in_ok-counts.counts.items =
     subst (λ (l : List Step). Counts c.len-requests.result l c.in_ok-counts.counts.items) (c.as_slice.ensures ∙ sym c.in_ok-steps.ensures) c.in_ok-counts.ensures in
     let fresh = subst (λ (l : List ℕ). AllZip IsFresh l c.in_ok-exchanges.exchanges.items) c.as_slice-2.ensures.value c.in_ok-exchanges.ensures.fresh in
+    let own : Limits = c.in_ok-own_limits.own_limits in
+    let own_is : own ≡ c.args.limits.now = c.in_ok-own_limits.ensures in
+    let stack : DriveStack = c.in_ok-stack.stack in
     let each = zip_length IsFresh c.in_ok-counts.counts.items c.in_ok-exchanges.exchanges.items fresh in (
-      session_begun c.args.limits.now scenario c.stack_over.result c.in_ok-counts.counts.items c.in_ok-exchanges.exchanges.items valid c.stack_over.ensures.may
-          (λ script i there. c.stack_over.ensures.stands script i (ap (λ l. slice_get l.items i) c.in-Ok.ensures.cases ∙ there) (valid_headers scenario valid i script there))
+      session_begun own scenario stack c.in_ok-counts.counts.items c.in_ok-exchanges.exchanges.items valid c.in_ok-stack.ensures.may
+          (λ script i there. subst (λ (l : Limits). StackStands l (numbered i script) stack) (sym own_is)
+          (c.in_ok-stack.ensures.stands script i (ap (λ l. slice_get l.items i) c.in-Ok.ensures.cases ∙ there) (valid_headers scenario valid i script there)))
           (subst (λ n. Counts n steps c.in_ok-counts.counts.items) many counted) fresh,
       c.in_ok-reserve.ensures.items ∙ ap (λ l. l.items) c.new-told.ensures,
       (let room = c.in_ok-reserve.ensures.room in let all = counted.each_counted in omega (arith, room, all, each)),
