@@ -1,0 +1,9 @@
+pub mod Classifier
+pub mod Code
+pub mod Drive
+pub mod Grpc
+pub mod GrpcClasses
+pub mod Mapped
+pub mod Number
+pub mod Shared
+pub mod Status

@@ -1,0 +1,246 @@
+//! A classifier of gRPC responses, by `grpc-status` in their headers or trailers.
+ghost use Rattle.std.specs.Prelude.{◌≡◌, ◌||◌, true, Ok, IfOk};
+ghost use Rattle.life_classify.specs.Code.{has, is_code, ok_alone};
+ghost use Rattle.life_classify.specs.Grpc.{grpc_parsed};
+ghost use Rattle.life_classify.specs.GrpcClasses.{trailers_told};
+ghost use Rattle.life_classify.specs.declared.classify.grpc_errors_as_failures.code.GrpcCode.TheVariants as code;
+ghost use Rattle.life_classify.specs.declared.classify.grpc_errors_as_failures.code.GrpcCode.{GrpcCode};
+
+use crate::classify::shared_classifier::SharedClassifier;
+use crate::classify::text::text_of;
+use crate::classify::traits::{ClassifiedResponse, ClassifyEos, ClassifyResponse};
+use bitflags::Flags;
+use http::HeaderMap;
+use life_core::{Got, Response, Text, Twin};
+use std::alloc::Global;
+use std::fmt;
+use std::fmt::Display;
+use std::marker::Model;
+
+mod bitmask;
+mod code;
+mod metadata;
+mod status;
+
+use bitmask::GrpcCodeBitmask;
+pub use code::GrpcCode;
+use metadata::classify_grpc_metadata;
+pub use metadata::grpc_metadata;
+pub use status::{GrpcStatus, ParsedGrpcStatus};
+
+/// Responses failed whose first `grpc-status` is a number of no code in a set of successes, in their headers
+/// or else in their trailers. What is no number, and what is missing at the end, is a success. A contract sees the
+/// classifier as its set of codes, in which `Ok` always is.
+#[derive(Debug, Drop)]
+pub struct GrpcErrorsAsFailures {
+    success_codes: GrpcCodeBitmask,
+}
+
+impl Model for GrpcErrorsAsFailures {
+    ghost use Rattle.std.specs.Prelude.{◌≡◌, ℕ, true};
+    ghost use Rattle.life_classify.specs.Code.{has};
+    ghost use Rattle.life_classify.specs.declared.classify.grpc_errors_as_failures.code.GrpcCode.TheVariants as code;
+
+    ghost Value = { ℕ };
+
+    ghost view = { λ classifier. classifier.success_codes.0 };
+
+    ghost invariant = { λ classifier. has classifier.success_codes.0 code.Ok ≡ true };
+}
+
+impl GrpcErrorsAsFailures {
+    ghost use Rattle.life_classify.specs.Shared.{shared};
+
+    /// The classifier for which `Ok` alone is a success.
+    pub fn new() -> GrpcErrorsAsFailures
+        ensures { result ≡ ok_alone }
+    {
+        GrpcErrorsAsFailures {
+            success_codes: GrpcCodeBitmask::OK,
+        }
+    }
+
+    /// The classifier for which this code is a success too. It takes no memory.
+    pub fn with_success(mut self, code: GrpcCode) -> GrpcErrorsAsFailures
+        ensures adds { (other : GrpcCode) → has result other ≡ (has self other || is_code code other) }
+        ensures keeps_ok { has result GrpcCode.Ok ≡ true }
+    {
+        self.success_codes.insert(code.into_bitmask());
+        self
+    }
+
+    /// The maker of twins of the classifier for which `Ok` alone is a success.
+    pub fn make_classifier() -> SharedClassifier<GrpcErrorsAsFailures>
+        ensures { result ≡ shared ok_alone }
+    {
+        SharedClassifier::new(GrpcErrorsAsFailures::new())
+    }
+
+    /// The set of successes.
+    pub(crate) fn success_codes(&self) -> GrpcCodeBitmask
+        ensures set { result.0 ≡ self.now }
+        ensures ok { has self.now GrpcCode.Ok ≡ true }
+    {
+        self.success_codes
+    }
+}
+
+impl Default for GrpcErrorsAsFailures {
+    ghost is_default = { λ classifier. classifier ≡ ok_alone };
+
+    fn default() -> GrpcErrorsAsFailures {
+        GrpcErrorsAsFailures::new()
+    }
+}
+
+impl Twin for GrpcErrorsAsFailures {
+    /// An equal classifier. It takes no memory.
+    fn twin(&self, _alloc: Global) -> Got<GrpcErrorsAsFailures>
+        ensures { result ≡ Ok self.now }
+    {
+        Ok(GrpcErrorsAsFailures {
+            success_codes: self.success_codes,
+        })
+    }
+}
+
+impl ClassifyResponse for GrpcErrorsAsFailures {
+    type FailureClass = GrpcFailureClass;
+
+    type ClassifyEos = GrpcEosErrorsAsFailures;
+
+    ghost use Rattle.std.specs.Prelude.{⊤};
+    ghost use Rattle.life_classify.specs.Status.{ByText};
+    ghost use Rattle.life_classify.specs.GrpcClasses.{ByHeaders};
+    ghost use Rattle.life_classify.specs.declared.classify.grpc_errors_as_failures.GrpcFailureClass.TheVariants as failure;
+
+    ghost may = { λ _. ⊤ };
+
+    ghost classifies_response = { ByHeaders };
+
+    ghost classifies_error = { λ _ text answer. ByText failure.Error text answer };
+
+    fn classify_response<B, X>(
+        self,
+        alloc: Global,
+        res: &Response<B, X>,
+    ) -> Got<ClassifiedResponse<GrpcFailureClass, GrpcEosErrorsAsFailures>> {
+        let success_codes = self.success_codes;
+        match classify_grpc_metadata(alloc, res.headers(), success_codes) {
+            Ok(ParsedGrpcStatus::Success) => Ok(ClassifiedResponse::Ready(Ok(()))),
+            Ok(ParsedGrpcStatus::HeaderNotGrpcCode) => Ok(ClassifiedResponse::Ready(Ok(()))),
+            Ok(ParsedGrpcStatus::NonSuccess(status)) => {
+                Ok(ClassifiedResponse::Ready(Err(GrpcFailureClass::Status(status))))
+            }
+            Ok(ParsedGrpcStatus::GrpcStatusHeaderMissing) => {
+                Ok(ClassifiedResponse::RequiresEos(GrpcEosErrorsAsFailures { success_codes }))
+            }
+            Err(no_memory) => Err(no_memory),
+        }
+    }
+
+    fn classify_error<E: Display>(self, alloc: Global, error: &E) -> Got<GrpcFailureClass> {
+        match text_of(alloc, error) {
+            Ok(text) => Ok(GrpcFailureClass::Error(text)),
+            Err(no_memory) => Err(no_memory),
+        }
+    }
+}
+
+/// Classifies the end of a stream by the trailers, with the set of successes of a `GrpcErrorsAsFailures`. A
+/// contract sees it as that set.
+#[derive(Debug, Drop)]
+pub struct GrpcEosErrorsAsFailures {
+    success_codes: GrpcCodeBitmask,
+}
+
+impl Model for GrpcEosErrorsAsFailures {
+    ghost use Rattle.std.specs.Prelude.{ℕ};
+
+    ghost Value = { ℕ };
+
+    ghost view = { λ classifier. classifier.success_codes.0 };
+}
+
+impl Twin for GrpcEosErrorsAsFailures {
+    /// An equal classifier. It takes no memory.
+    fn twin(&self, _alloc: Global) -> Got<GrpcEosErrorsAsFailures>
+        ensures { result ≡ Ok self.now }
+    {
+        Ok(GrpcEosErrorsAsFailures {
+            success_codes: self.success_codes,
+        })
+    }
+}
+
+/// What the trailers tell. The one error is want of memory.
+fn classify_trailers(
+    alloc: Global,
+    trailers: &HeaderMap,
+    success_codes: GrpcCodeBitmask,
+) -> Got<Result<(), GrpcFailureClass>>
+    ensures { IfOk result (λ told. told ≡ trailers_told (grpc_parsed success_codes.0 trailers.now)) }
+{
+    match classify_grpc_metadata(alloc, trailers, success_codes) {
+        Ok(ParsedGrpcStatus::NonSuccess(status)) => Ok(Err(GrpcFailureClass::Status(status))),
+        Ok(ParsedGrpcStatus::Success) => Ok(Ok(())),
+        Ok(ParsedGrpcStatus::GrpcStatusHeaderMissing) => Ok(Ok(())),
+        Ok(ParsedGrpcStatus::HeaderNotGrpcCode) => Ok(Ok(())),
+        Err(no_memory) => Err(no_memory),
+    }
+}
+
+impl ClassifyEos for GrpcEosErrorsAsFailures {
+    type FailureClass = GrpcFailureClass;
+
+    ghost use Rattle.std.specs.Prelude.{⊤};
+    ghost use Rattle.life_classify.specs.Status.{ByText};
+    ghost use Rattle.life_classify.specs.GrpcClasses.{ByTrailers};
+    ghost use Rattle.life_classify.specs.declared.classify.grpc_errors_as_failures.GrpcFailureClass.TheVariants as failure;
+
+    ghost may = { λ _. ⊤ };
+
+    ghost classifies_eos = { ByTrailers };
+
+    ghost classifies_error = { λ _ text answer. ByText failure.Error text answer };
+
+    fn classify_eos(
+        self,
+        alloc: Global,
+        trailers: Option<&HeaderMap>,
+    ) -> Got<Result<(), GrpcFailureClass>> {
+        match trailers {
+            Some(trailers) => classify_trailers(alloc, trailers, self.success_codes),
+            None => Ok(Ok(())),
+        }
+    }
+
+    fn classify_error<E: Display>(self, alloc: Global, error: &E) -> Got<GrpcFailureClass> {
+        match text_of(alloc, error) {
+            Ok(text) => Ok(GrpcFailureClass::Error(text)),
+            Err(no_memory) => Err(no_memory),
+        }
+    }
+}
+
+/// What the classifiers of gRPC classify a failure as.
+#[derive(Debug, Drop)]
+pub enum GrpcFailureClass {
+    /// A response with this status.
+    Status(GrpcStatus),
+    /// An error that showed this text.
+    Error(Text),
+}
+
+impl Display for GrpcFailureClass {
+    ghost use Rattle.life_classify.specs.GrpcClasses.{grpc_class_text};
+
+    ghost output = { grpc_class_text };
+
+    fn fmt<W: fmt::Write>(&self, f: &mut fmt::Formatter<W>) -> fmt::Result {
+        match self {
+            GrpcFailureClass::Status(status) => write!(f, "Status: {status}"),
+            GrpcFailureClass::Error(text) => write!(f, "Error: {}", text.as_str()),
+        }
+    }
+}
