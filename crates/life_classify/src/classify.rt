@@ -23,6 +23,3 @@ pub use status_in_range_is_error::{
     BadStatusRange, StatusInRangeAsFailures, StatusInRangeFailureClass,
 };
 pub use traits::{ClassifiedResponse, ClassifyEos, ClassifyResponse, MakeClassifier};
-
-#[cfg(test)]
-mod tests;

@@ -85,6 +85,3 @@ pub trait Body<L: Recorder>: Spend<L> {
 pub trait DefaultBody<L: Recorder>: Body<L> + Default {
     ghost default_may: { (body : Self) → Self.is_default body → Self.may body };
 }
-
-#[cfg(test)]
-mod tests;

@@ -56,6 +56,3 @@ pub use twin::Twin;
 
 /// A value, or want of memory.
 pub type Got<T> = Result<T, NoMemory>;
-
-#[cfg(test)]
-mod tests;

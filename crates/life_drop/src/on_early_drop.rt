@@ -13,6 +13,3 @@ pub use guard::OnEarlyDropGuard;
 pub use note::{NoteDrop, NoteDropped};
 pub use service::OnEarlyDropService;
 pub use traits::{OnBodyDrop, OnDropCallback, OnFutureDrop};
-
-#[cfg(test)]
-mod tests;

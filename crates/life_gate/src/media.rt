@@ -10,6 +10,3 @@ mod types;
 pub use accepting::accepts;
 pub use lists::media_list;
 pub use types::{MediaItem, MediaItems, MediaType, media_type};
-
-#[cfg(test)]
-mod tests;

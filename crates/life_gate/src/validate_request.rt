@@ -14,6 +14,3 @@ pub use layer::{NameError, ValidateRequestHeaderLayer};
 pub use required::RequiredHeaderValue;
 pub use service::ValidateRequestHeader;
 pub use validate::ValidateRequest;
-
-#[cfg(test)]
-mod tests;

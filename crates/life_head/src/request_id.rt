@@ -12,6 +12,3 @@ pub use number::{ByNumber, Number};
 pub use propagate::{PropagateRequestId, PropagateRequestIdLayer};
 pub use propagating::PropagateRequestIdResponseFuture;
 pub use set::{SetRequestId, SetRequestIdLayer};
-
-#[cfg(test)]
-mod tests;

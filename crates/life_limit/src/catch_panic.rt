@@ -9,6 +9,3 @@ pub use future::ResponseFuture;
 pub use handler::{DefaultResponseForPanic, ResponseForPanic};
 pub use layer::CatchPanicLayer;
 pub use service::CatchPanic;
-
-#[cfg(test)]
-mod tests;

@@ -10,6 +10,3 @@ pub use body::ResponseBody;
 pub use future::ResponseFuture;
 pub use layer::RequestBodyLimitLayer;
 pub use service::RequestBodyLimit;
-
-#[cfg(test)]
-mod tests;

@@ -127,6 +127,3 @@ pub fn check(scenario: &Scenario) -> Result<(), DriveError>
         ),
     }
 }
-
-#[cfg(test)]
-mod tests;

@@ -87,6 +87,3 @@ fn read_parts(alloc: Global, top: &Value) -> Built<Scenario>
         _ => Ok(None),
     }
 }
-
-#[cfg(test)]
-mod tests;

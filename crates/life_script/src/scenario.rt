@@ -237,6 +237,3 @@ impl Model for Scenario {
 
     ghost view = { λ s. record { requests = s.requests.items; steps = s.steps.items; end = s.end } };
 }
-
-#[cfg(test)]
-mod tests;

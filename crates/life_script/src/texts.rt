@@ -368,6 +368,3 @@ pub fn event_text(alloc: Global, event: &Event) -> Got<Octets>
     text.event(alloc, event)?;
     Ok(text.finish())
 }
-
-#[cfg(test)]
-mod tests;

@@ -7,8 +7,6 @@ mod due;
 mod exchange;
 mod exchanges;
 mod ext;
-#[cfg(test)]
-mod fixtures;
 mod intake;
 mod live;
 mod report;

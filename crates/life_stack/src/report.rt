@@ -111,6 +111,3 @@ pub fn report_text(alloc: Global, report: &Report) -> Got<Octets>
     put_total(alloc, &mut text, told.len() as u64, steps.len() as u64, end)?;
     Ok(text.finish())
 }
-
-#[cfg(test)]
-mod tests;

@@ -110,6 +110,3 @@ pub fn run<S: Source, K: Sink>(
         None => answer(sink, b"usage: drive\n", Status::Usage),
     }
 }
-
-#[cfg(test)]
-mod tests;

@@ -218,6 +218,3 @@ impl Session {
         Report { told, steps, end }
     }
 }
-
-#[cfg(test)]
-mod tests;

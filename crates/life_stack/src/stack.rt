@@ -220,6 +220,3 @@ pub fn abandon_body<L: Recorder>(body: DriveBody, cx: &mut Cx<'_, L>) -> Got<()>
 {
     body.abandon(cx)
 }
-
-#[cfg(test)]
-mod tests;

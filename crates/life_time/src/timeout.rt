@@ -7,6 +7,3 @@ mod service;
 pub use deadline_body::DeadlineBody;
 pub use deadline_service::{ResponseBodyDeadline, ResponseBodyDeadlineFuture};
 pub use service::{ResponseFuture, Timeout};
-
-#[cfg(test)]
-mod tests;

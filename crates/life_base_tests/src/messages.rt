@@ -1,0 +1,124 @@
+//! Requests, responses and their heads.
+use crate::asserting::{holds, is, records_nothing, text_is};
+use crate::headers::first_is;
+use http::header::CONTENT_TYPE;
+use http::{Method, StatusCode, Version};
+use life_core::{Cx, Empty, Log, NoMemory, Request, Response, ResponseHead, give_up_request};
+use std::process::Abort;
+
+/// Asserts what a request without headers for `/` is.
+fn request_is(
+    rt: &impl Abort,
+    request: &Request<Empty, u64>,
+    method: &str,
+    version: Version,
+    ext: u64,
+) {
+    text_is(rt, "its method", request.method().as_str(), method);
+    text_is(rt, "its path", request.uri().path(), "/");
+    holds(rt, "its version", request.version() == version);
+    holds(rt, "no headers", request.headers().is_empty());
+    is(rt, "its extension", *request.ext(), ext);
+    let Empty = request.body();
+}
+
+/// Gives up a request, which records nothing.
+fn gives_up(rt: &(impl Abort + AllocGlobal), request: Request<Empty, u64>) {
+    let alloc = rt.alloc();
+    let span = None;
+    let mut log = Log::new(alloc);
+    let mut cx = Cx {
+        now: 0,
+        span: &span,
+        alloc,
+        rec: &mut log,
+    };
+    let NoMemory = give_up_request(request, &mut cx);
+    records_nothing(rt, "a request that is given up", &mut log);
+}
+
+#[test]
+fn requests(rt: HostRuntime) {
+    let request = Request::new(rt.alloc(), Empty, 5u64);
+    request_is(&rt, &request, "GET", Version::HTTP_11, 5);
+    let (head, body) = request.into_parts();
+    let request = Request::from_parts(head, body);
+    request_is(&rt, &request, "GET", Version::HTTP_11, 5);
+    gives_up(&rt, request);
+}
+
+/// Asserts what is lent of a request to be changed, where nothing was changed yet.
+fn request_lends(rt: &impl Abort, request: &mut Request<Empty, u64>) {
+    holds(rt, "no headers", request.headers_mut().is_empty());
+    text_is(rt, "its path", request.uri_mut().path(), "/");
+    let Empty = request.body_mut();
+}
+
+#[test]
+fn requests_changed(rt: HostRuntime) {
+    let mut request = Request::new(rt.alloc(), Empty, 5u64);
+    *request.method_mut() = Method::POST;
+    *request.version_mut() = Version::HTTP_10;
+    *request.ext_mut() = 6;
+    request_is(&rt, &request, "POST", Version::HTTP_10, 6);
+    request_lends(&rt, &mut request);
+    gives_up(&rt, request);
+}
+
+/// Asserts what a response without headers is.
+fn response_is(rt: &impl Abort, response: &Response<Empty, u64>, status: u16, ext: u64) {
+    is(rt, "its status", response.status().as_u16(), status);
+    holds(rt, "no headers", response.headers().is_empty());
+    is(rt, "its extension", *response.ext(), ext);
+    let Empty = response.body();
+}
+
+/// Asserts what a head of a response is.
+fn head_is(rt: &impl Abort, head: &ResponseHead<u64>, status: u16, headers: usize, ext: u64) {
+    is(rt, "its status", head.status().as_u16(), status);
+    holds(rt, "HTTP/1.1", head.parts.version == Version::HTTP_11);
+    is(rt, "so many headers", head.parts.headers.len(), headers);
+    is(rt, "its extension", head.ext, ext);
+}
+
+#[test]
+fn responses(rt: HostRuntime) {
+    let alloc = rt.alloc();
+    let response = Response::new(alloc, Empty, 5u64);
+    response_is(&rt, &response, 200, 5);
+    let (head, body) = response.into_parts();
+    head_is(&rt, &head, 200, 0, 5);
+    drop(head);
+    let head = ResponseHead::<u64>::bare(alloc, StatusCode::NOT_FOUND);
+    let response = Response::from_parts(head, body);
+    response_is(&rt, &response, 404, 0);
+    let (head, Empty) = response.into_parts();
+    head_is(&rt, &head, 404, 0, 0);
+}
+
+/// Asserts what is lent of a response to be changed, where no headers were put.
+fn response_lends(rt: &impl Abort, response: &mut Response<Empty, u64>) {
+    holds(rt, "no headers", response.headers_mut().is_empty());
+    let Empty = response.body_mut();
+}
+
+#[test]
+fn responses_changed(rt: HostRuntime) {
+    let mut response = Response::new(rt.alloc(), Empty, 5u64);
+    *response.status_mut() = StatusCode::NOT_FOUND;
+    *response.ext_mut() = 6;
+    response_is(&rt, &response, 404, 6);
+    response_lends(&rt, &mut response);
+    let (head, Empty) = response.into_parts();
+    drop(head);
+}
+
+#[test]
+fn heads_of_texts(rt: HostRuntime) {
+    let head = ResponseHead::<u64>::text(rt.alloc(), StatusCode::PAYLOAD_TOO_LARGE).expect(
+        &rt, "memory",
+    );
+    head_is(&rt, &head, 413, 1, 0);
+    let want = b"text/plain; charset=utf-8";
+    first_is(&rt, &head.parts.headers, &CONTENT_TYPE, Some(want));
+}

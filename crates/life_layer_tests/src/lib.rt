@@ -1,0 +1,17 @@
+//! Tests of the layers that time, watch, name, bound and gate requests, and of the one that catches panics.
+#![tactic(auto)]
+
+#[cfg(test)]
+mod asserting;
+#[cfg(test)]
+mod catch_panic;
+#[cfg(test)]
+mod early_drop;
+#[cfg(test)]
+mod limit;
+#[cfg(test)]
+mod request_id;
+#[cfg(test)]
+mod timeout;
+#[cfg(test)]
+mod validate_request;

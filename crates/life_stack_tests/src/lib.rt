@@ -1,0 +1,21 @@
+//! Tests of scenarios and their texts, and of runs, sessions and the driven stack, through public items.
+#![tactic(auto)]
+
+#[cfg(test)]
+mod asserting;
+#[cfg(test)]
+mod checks;
+#[cfg(test)]
+mod fixtures;
+#[cfg(test)]
+mod reading;
+#[cfg(test)]
+mod runs;
+#[cfg(test)]
+mod scripts;
+#[cfg(test)]
+mod sessions;
+#[cfg(test)]
+mod stack;
+#[cfg(test)]
+mod texts;
