@@ -2,12 +2,13 @@
 use Rattle.std.proofs.Common.{◌≡◌, ℕ, ◌≤◌, List, [], ◌∷◌, ◌++◌, Bool, true, false, Some, None, refl, sym, ap, ◌∙◌, arith, append-nil, append_assoc}
 use Rattle.std.specs.Prelude.{◌||◌}
 use Rattle.life_core.specs.declared.event.DropKind.{DropKind}
-use Rattle.life_stack.specs.Ident.{Numbered}
+use Rattle.life_stack.specs.Table.Request.{Numbered}
 use Rattle.life_script.specs.declared.answer.Answer.{Answer}
 use Rattle.life_script.specs.declared.scenario.Act.TheVariants as act
 use Rattle.life_script.specs.declared.scenario.Limits.{Limits}
-use Rattle.life_stack.specs.Own.{Own, NotBefore, called_at, after_call, polls_before_drop, first_drop, polls, dropped_at}
-use Rattle.life_stack.specs.Story.{answer, answers_after, answers, is_ending, any_ending, kind_after, kind_of}
+use Rattle.life_session.specs.Acts.{NotBefore, Own}
+use Rattle.life_stack.specs.Table.Request.{after_call, called_at, dropped_at, first_drop, polls, polls_before_drop}
+use Rattle.life_stack.specs.Table.Story.{answer, answers, answers_after, any_ending, is_ending, kind_after, kind_of}
 
 pub none≢some : {A : Type 0} {x : A} → None ≡ Some x → ⊥
 none≢some e = cc

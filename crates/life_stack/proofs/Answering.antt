@@ -16,7 +16,7 @@ use Rattle.life_time.proofs.DeadlineFollows.{undue_all}
 use Rattle.life_core.specs.Due.{due}
 use Rattle.life_core.specs.declared.event.DropKind.TheVariants as drop_kind
 use Rattle.life_core.specs.declared.event.Event.{Event}
-use Rattle.life_stack.specs.Ident.{Numbered, ident}
+use Rattle.life_stack.specs.Table.Request.{Numbered, ident}
 use Rattle.life_script.specs.Headers.{map_of}
 use Rattle.life_script.specs.Views.{ReplyView}
 use Rattle.life_script.specs.declared.answer.Answer.{Answer}
@@ -25,11 +25,11 @@ use Rattle.life_script.specs.declared.answer.Seen.TheVariants as seen
 use Rattle.life_script.specs.declared.scenario.BodyItem.{BodyItem}
 use Rattle.life_script.specs.declared.scenario.BodyItem.TheVariants as body_item
 use Rattle.life_script.specs.declared.scenario.Limits.{Limits}
-use Rattle.life_stack.specs.Story.{Outcome, Replied, due_reply, head, tells_after, item_answer, body_answer, head_answer, later_answer, by_head, is_ending, poll_events, undue_events}
-use Rattle.life_stack.specs.Driven.{BodyPlan, Head, body_plan, named, service_says, timed_body_history, future_history}
-use Rattle.life_stack.specs.Handing.{shown_headers}
-use Rattle.life_stack.specs.Script.{item_frame}
-use Rattle.life_stack.specs.StandsAt.{BodySaid}
+use Rattle.life_stack.specs.Table.Story.{Outcome, Replied, body_answer, by_head, due_reply, head, head_answer, is_ending, item_answer, later_answer, poll_events, tells_after, undue_events}
+use Rattle.life_stack.specs.Stack.Driven.{BodyPlan, Head, body_plan, named, service_says, timed_body_history, future_history}
+use Rattle.life_stack.specs.Table.Request.{shown_headers}
+use Rattle.life_stack.specs.Service.Script.{item_frame}
+use Rattle.life_session.specs.Table.{FrameSaid}
 use Rattle.life_stack.proofs.Heads.{head_of, head_more}
 
 -- what the service says under the timer
@@ -59,17 +59,17 @@ last_poll ps t = get_or_at ps t [] 0 (length ps) refl
 pub earlier_poll : (ps : List ℕ) (t h : ℕ) → h < length ps → slice_index (ps ++ t ∷ []) h ≡ slice_index ps h
 earlier_poll ps t h l = get_or_append_left ps (t ∷ []) 0 h l
 
-pub ending_said : (x : Poll (Option (Result (Frame (List ℕ)) (BodyError (List ℕ))))) (e : Bool) (a : Answer) → BodySaid x e a → is_ending a ≡ is_ending_frame x e
+pub ending_said : (x : Poll (Option (Result (Frame (List ℕ)) (BodyError (List ℕ))))) (e : Bool) (a : Answer) → FrameSaid x e a → is_ending a ≡ is_ending_frame x e
 ending_said Pending e a s = ap is_ending s
 ending_said (Ready None) e a s = ap is_ending s
 ending_said (Ready (Some (Ok f))) e a s = ap is_ending s.2
 ending_said (Ready (Some (Err x))) e a s = ap is_ending s
 
 pub body_table : (limits : Limits) (ph : ℕ) (r : ReplyView) (past : List ℕ) (q : ℕ) → Latest q past →
-    BodySaid ((timed_body_history limits (ph, body_plan r)).frame past q) ((timed_body_history limits (ph, body_plan r)).ends (q ∷ past)) (body_answer limits r ph q (length past))
+    FrameSaid ((timed_body_history limits (ph, body_plan r)).frame past q) ((timed_body_history limits (ph, body_plan r)).ends (q ∷ past)) (body_answer limits r ph q (length past))
 body_table limits ph r past q l = go (due ph limits.body_deadline q) refl
   where
-    by_item : (o : Option BodyItem) → BodySaid (wrapped (item_frame o)) (tells_after r (suc (length past))) (item_answer r (length past) o)
+    by_item : (o : Option BodyItem) → FrameSaid (wrapped (item_frame o)) (tells_after r (suc (length past))) (item_answer r (length past) o)
     by_item None = refl
     by_item (Some body_item.Pending) = refl
     by_item (Some (body_item.Chunk bytes)) = (seen.Chunk bytes, refl, refl)
@@ -77,7 +77,7 @@ body_table limits ph r past q l = go (due ph limits.body_deadline q) refl
     by_item (Some (body_item.Fault fault)) = refl
 
     go : (b : Bool) → due ph limits.body_deadline q ≡ b →
-        BodySaid (if b then Ready (Some (Err Elapsed)) else wrapped (item_frame (slice_get r.body (length past)))) (tells_after r (length (if b then undue ph limits.body_deadline past else q ∷ undue ph limits.body_deadline past)))
+        FrameSaid (if b then Ready (Some (Err Elapsed)) else wrapped (item_frame (slice_get r.body (length past)))) (tells_after r (length (if b then undue ph limits.body_deadline past else q ∷ undue ph limits.body_deadline past)))
         (if b then ans.Fault Elapsed else item_answer r (length past) (slice_get r.body (length past)))
     go true e = refl
     go false e = rw (undue_all ph limits.body_deadline q past l e) (by_item (slice_get r.body (length past)))

@@ -17,10 +17,13 @@ use Rattle.life_script.specs.declared.scenario.Limits.{Limits}
 use Rattle.life_script.specs.declared.scenario.PollItem.{PollItem}
 use Rattle.life_script.specs.declared.scenario.Then.{Then}
 use Rattle.life_script.specs.declared.scenario.Then.TheVariants as then_
-use Rattle.life_stack.specs.Handing.{Decision, TooLarge, Forbidden, Panicked, Served, asked_before, asks_of, bytes_of, decided_events, decision, handed_at, handed_by, handed_bytes, handed_from, panic_at, panic_event, panic_in, room, room_before, room_past}
-use Rattle.life_stack.specs.Ident.{Numbered}
-use Rattle.life_stack.specs.Own.{Own, called_at, dropped_at, polls, polls_before_drop}
-use Rattle.life_stack.specs.Story.{Outcome, answer, answers, any_ending, body_bytes, drop_events, drops, drops_at, events, head, kind_of, on_poll_events, poll_events, story, turns_after, turns_bytes, undue_events, unless_dropped}
+use Rattle.life_stack.specs.Table.Decision.{Decision, TooLarge, Forbidden, Panicked, Served, decision}
+use Rattle.life_stack.specs.Table.Handed.{asked_before, asks_of, bytes_of, decided_events, handed_at, handed_by, handed_bytes, handed_from, panic_at, panic_event, panic_in, room, room_before, room_past}
+use Rattle.life_stack.specs.Table.Request.{Numbered}
+use Rattle.life_session.specs.Acts.{Own}
+use Rattle.life_stack.specs.Table.Request.{called_at, dropped_at, polls, polls_before_drop}
+use Rattle.life_session.specs.Table.{turns_by}
+use Rattle.life_stack.specs.Table.Story.{Outcome, answer, answers, any_ending, body_bytes, drop_events, drops, drops_at, events, head, kind_of, on_poll_events, poll_events, story, story_table, turns_bytes, undue_events, unless_dropped}
 use Rattle.life_stack.proofs.Acts.{none≢some, after_now, poll_uncalled, drop_uncalled, polls_after_call, polls_after_drop, polls_after_dropped, polls_after_poll}
 use Rattle.life_stack.proofs.Handing.{asked_more, no_item, room_none}
 use Rattle.life_stack.proofs.Heads.{length_push}
@@ -168,7 +171,7 @@ module _ (limits : Limits) (script : Numbered) where
       ∙ ap (λ o. handed_bytes (on_poll_events limits script (Some t0) o (polls before ++ t ∷ []) (length (polls before)) t)) e)
   step before (t, act.Poll) (Some t0) None c e = polled before t t0 c e
 
-  turns_within : (acts before : List Own) → turns_bytes (turns_after limits script before acts) ≤ left_at (length (polls before))
+  turns_within : (acts before : List Own) → turns_bytes (turns_by (story_table limits script) before acts) ≤ left_at (length (polls before))
   turns_within [] before = omega arith
   turns_within (x ∷ acts) before =
       let here = step before x (called_at before) (dropped_at before) refl refl in

@@ -46,13 +46,14 @@ use Rattle.life_time.specs.DeadlineBody.{DeadlineBodyLeaves, DeadlineFrames, dea
 use Rattle.life_time.specs.Stands.{DeadlineBodyStands, DeadlineStands, TimeoutStands}
 use Rattle.life_time.proofs.DeadlineFollows.{deadline_follows, deadline_body_follows, deadline_serves}
 use Rattle.life_time.proofs.TimeoutFollows.{timeout_follows, timeout_serves}
-use Rattle.life_stack.specs.Driven.{AsksGate, BodyPlan, Caught, CaughtStands, BodyStands, FutureStands, Head, Heads, InnerBody, InnerBodyStands, InnerFuture, InnerServes, InnerStands, IsDefaultInner, ScriptBodyStands, StackStands, TellsHead, body_history, body_plan, call_hands, call_tells, caught_leaves, decided_says, drive_body_leaves, drive_calls, drive_ends, drive_frames, drive_leaves, drive_polls, forbidden_head, future_history, gate_validates, inner_body_leaves, inner_calls, inner_ends, inner_frames, inner_leaves, inner_polls, item_says, item_tells, named, script_body_history, service_history, timed_body_history}
-use Rattle.life_stack.specs.Handing.{bare_reply, decided, decided_events, forbidden_reply, is_shut, is_too_large, panic_at, panic_event, panic_reply, room, text_reply, too_large_reply}
-use Rattle.life_stack.specs.Ident.{Numbered, ident}
-use Rattle.life_stack.specs.Script.{IsDefaultExt, IsRequestOf, ScriptFrames, ScriptLeaves, ext_id, ext_number, item_frame, tells_end, with_id}
-use Rattle.life_stack.specs.Story.{due_reply}
-use Rattle.life_stack.specs.declared.ext.Ext.{Ext}
-use Rattle.life_stack.specs.declared.script_service.ScriptBody.{ScriptBody}
+use Rattle.life_stack.specs.Stack.Driven.{AsksGate, BodyPlan, Caught, CaughtStands, BodyStands, FutureStands, Head, Heads, InnerBody, InnerBodyStands, InnerFuture, InnerServes, InnerStands, IsDefaultInner, ScriptBodyStands, StackStands, TellsHead, body_history, body_plan, call_hands, call_tells, caught_leaves, decided_says, drive_body_leaves, drive_calls, drive_ends, drive_frames, drive_leaves, drive_polls, forbidden_head, future_history, gate_validates, inner_body_leaves, inner_calls, inner_ends, inner_frames, inner_leaves, inner_polls, item_says, item_tells, named, script_body_history, service_history, timed_body_history}
+use Rattle.life_stack.specs.Table.Decision.{bare_reply, decided, forbidden_reply, is_shut, is_too_large, panic_reply, text_reply, too_large_reply}
+use Rattle.life_stack.specs.Table.Handed.{decided_events, panic_at, panic_event, room}
+use Rattle.life_stack.specs.Table.Request.{Numbered, ident}
+use Rattle.life_stack.specs.Service.Script.{IsDefaultExt, IsRequestOf, ScriptFrames, ScriptLeaves, ext_id, ext_number, item_frame, tells_end, with_id}
+use Rattle.life_stack.specs.Table.Story.{due_reply}
+use Rattle.life_stack.specs.declared.service.ext.Ext.{Ext}
+use Rattle.life_stack.specs.declared.service.body.ScriptBody.{ScriptBody}
 use Rattle.life_stack.proofs.Handing.{no_item, script_body_follows}
 use Rattle.life_stack.proofs.Naming.{AsksInner, head_named, request_named}
 use Rattle.life_stack.proofs.ScriptFollows.{script_follows, script_keeps, script_serves}

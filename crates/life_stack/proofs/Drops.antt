@@ -5,7 +5,7 @@ use Rattle.life_core.specs.Due.{due}
 use Rattle.life_core.specs.declared.event.DropKind.TheVariants as drop_kind
 use Rattle.life_core.specs.declared.event.Event.{Event}
 use Rattle.life_core.specs.declared.event.Event.TheVariants as event
-use Rattle.life_stack.specs.Ident.{Numbered}
+use Rattle.life_stack.specs.Table.Request.{Numbered}
 use Rattle.life_script.specs.declared.answer.Answer.{Answer}
 use Rattle.life_script.specs.declared.answer.Answer.TheVariants as ans
 use Rattle.life_script.specs.declared.scenario.Act.TheVariants as act
@@ -14,9 +14,12 @@ use Rattle.life_script.specs.declared.scenario.PollItem.{PollItem}
 use Rattle.life_script.specs.declared.scenario.Then.{Then}
 use Rattle.life_script.specs.declared.scenario.Then.TheVariants as then_
 use Rattle.life_script.specs.declared.scenario.Limits.{Limits}
-use Rattle.life_stack.specs.Own.{Own, called_at, first_drop, polls, dropped_at, drop_time}
-use Rattle.life_stack.specs.Story.{Outcome, Replied, Failed, head, drop_answer, drop_events, on_call, on_drop, on_poll_events, answer, answers, any_ending, kind_of, drops_at, drops, events, poll_events, turns_after, undue_events, unless_dropped, at_end, dropped_in, drop_records, story}
-use Rattle.life_stack.specs.Handing.{Decision, TooLarge, Forbidden, Panicked, Served, asked_before, asks_of, decided_events, decision, handed_from, panic_at, panic_in, room}
+use Rattle.life_session.specs.Acts.{Own}
+use Rattle.life_stack.specs.Table.Request.{called_at, drop_time, dropped_at, first_drop, polls}
+use Rattle.life_session.specs.Table.{turns_by}
+use Rattle.life_stack.specs.Table.Story.{Failed, Outcome, Replied, answer, answers, any_ending, at_end, drop_answer, drop_events, drop_records, dropped_in, drops, drops_at, events, head, kind_of, on_call, on_drop, on_poll_events, poll_events, story, story_table, undue_events, unless_dropped}
+use Rattle.life_stack.specs.Table.Decision.{Decision, TooLarge, Forbidden, Panicked, Served, decision}
+use Rattle.life_stack.specs.Table.Handed.{asked_before, asks_of, decided_events, handed_from, panic_at, panic_in, room}
 use Rattle.life_core.specs.declared.latency.LatencyUnit.TheVariants.{Nanos}
 use Rattle.life_script.specs.ToldView.{TurnView}
 use Rattle.life_stack.proofs.Failing.{Marked, ended_none, marked_none, marked_step}
@@ -34,7 +37,7 @@ called_where_dropped ((t, act.Drop) ∷ acts) e = called_where_dropped acts e
 
 -- the early drops of the turns from some act on
 abbrev told_drops : Limits → Numbered → List Own → List Own → List Event
-told_drops limits script before acts = flat_map (λ (made : TurnView). dropped_in made.events) (turns_after limits script before acts)
+told_drops limits script before acts = flat_map (λ (made : TurnView). dropped_in made.events) (turns_by (story_table limits script) before acts)
 
 module _ (limits : Limits) (script : Numbered) where
   -- after the Drop all is idle

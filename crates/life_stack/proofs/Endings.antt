@@ -8,17 +8,17 @@ use Rattle.life_script.specs.declared.scenario.Limits.{Limits}
 use Rattle.life_script.proofs.ReadingLemmas.{reads_not_bad, reads_built, reads_one}
 use Rattle.life_script.specs.Reading.{Reads}
 use Rattle.life_script.specs.Valid.{verdict}
-use Rattle.life_stack.specs.Drive.{report_of}
-use Rattle.life_stack.specs.Report.{report_text}
-use Rattle.life_stack.specs.Due.{IsDue, IsDueFor, IsReport, IsRefusal, IsUnread}
-use Rattle.life_stack.specs.Lines.{refused_line}
-use Rattle.life_stack.specs.Intake.{most_bytes, IsWhole}
-use Rattle.life_stack.specs.Run.{RanOn, Ended, IsCutShort, HasScenario, HasDue}
-use Rattle.life_stack.specs.Writing.{IsAnswered}
-use Rattle.life_stack.specs.declared.words.Command.{Command}
-use Rattle.life_stack.specs.declared.words.Command.TheVariants.{Drive}
-use Rattle.life_stack.specs.declared.status.Status.{Status}
-use Rattle.life_stack.specs.declared.status.Status.TheVariants.{Done, Usage, BadScenario, Refused, SourceFault, TooLong, SinkFault, NoMemory}
+use Rattle.life_stack.specs.Stack.Drive.{report_of}
+use Rattle.life_session.specs.Report.{report_text}
+use Rattle.life_stack.specs.Program.Due.{IsDue, IsDueFor, IsReport, IsRefusal, IsUnread}
+use Rattle.life_stack.specs.Program.Lines.{refused_line}
+use Rattle.life_stack.specs.Program.Input.{most_bytes, IsWhole}
+use Rattle.life_stack.specs.Program.Run.{RanOn, Ended, IsCutShort, HasScenario, HasDue}
+use Rattle.life_stack.specs.Program.Writing.{IsAnswered}
+use Rattle.life_stack.specs.declared.program.words.Command.{Command}
+use Rattle.life_stack.specs.declared.program.words.Command.TheVariants.{Drive}
+use Rattle.life_stack.specs.declared.program.status.Status.{Status}
+use Rattle.life_stack.specs.declared.program.status.Status.TheVariants.{Done, Usage, BadScenario, Refused, SourceFault, TooLong, SinkFault, NoMemory}
 
 -- there is one command
 pub one_command : (command : Command) → command ≡ Drive

@@ -2,20 +2,21 @@
 use Rattle.std.proofs.Common.{inl, inr, ◌≡◌, ℕ, List, [], ◌∷◌, ◌++◌, length, Bool, true, false, Option, Some, None, refl, sym, ap, ◌∙◌, subst, append-nil, append_assoc}
 use Rattle.std.specs.Prelude.{◌||◌}
 use Rattle.life_core.specs.History.{Said, Waits, Gives, Fails}
-use Rattle.life_stack.specs.Ident.{Numbered}
+use Rattle.life_stack.specs.Table.Request.{Numbered}
 use Rattle.life_script.specs.Views.{ReplyView}
 use Rattle.life_script.specs.declared.answer.Answer.{Answer}
 use Rattle.life_script.specs.declared.answer.Answer.TheVariants as ans
 use Rattle.life_script.specs.declared.scenario.Act.TheVariants as act
 use Rattle.life_script.specs.declared.scenario.Limits.{Limits}
-use Rattle.life_stack.specs.Driven.{BodyPlan, Head}
-use Rattle.life_stack.specs.Own.{Own, called_at, dropped_at, polls, polls_before_drop}
-use Rattle.life_stack.specs.StandsAt.{IsGone}
-use Rattle.life_stack.specs.Story.{Outcome, Replied, Failed, head, by_head, on_poll, answer, answers, is_ending, any_ending, drops_at, drops, unless_dropped, at_end}
+use Rattle.life_stack.specs.Stack.Driven.{BodyPlan, Head}
+use Rattle.life_session.specs.Acts.{Own}
+use Rattle.life_stack.specs.Table.Request.{called_at, dropped_at, polls, polls_before_drop}
+use Rattle.life_stack.specs.Stack.StandsAt.{IsGone}
+use Rattle.life_stack.specs.Table.Story.{Failed, Outcome, Replied, answer, answers, any_ending, at_end, by_head, drops, drops_at, head, is_ending, on_poll, unless_dropped}
 use Rattle.life_stack.proofs.Acts.{none≢some, called_kept, after_now, poll_uncalled, drop_uncalled, polls_after_call, polls_after_poll, polls_after_drop, polls_after_dropped, answers_push, any_ending_push}
 use Rattle.life_stack.proofs.Answering.{answer_at_head, head_said, timed_says}
 use Rattle.life_stack.proofs.Heads.{head_kept, head_of, no_head}
-use Rattle.life_stack.proofs.Runs.{some_is}
+use Rattle.life_session.proofs.ActLaws.{some_is}
 
 apart : (r : ReplyView) (error : List ℕ) → Replied r ≡ Failed error → ⊥
 apart r error e = cc

@@ -27,11 +27,12 @@ use Rattle.life_script.specs.declared.answer.Seen.TheVariants as seen
 use Rattle.life_script.specs.declared.scenario.BodyItem.{BodyItem}
 use Rattle.life_script.specs.declared.scenario.BodyItem.TheVariants as body_item
 use Rattle.life_script.specs.declared.scenario.PollItem.{PollItem}
-use Rattle.life_stack.specs.Driven.{BodyPlan, ScriptBodyStands, script_body_history}
-use Rattle.life_stack.specs.Handing.{asked_before, asks_of, handed_at, handed_by, handed_from, room_before, room_past, shown_headers}
-use Rattle.life_stack.specs.Script.{Asked, ScriptFrames, ScriptLeaves, asked_of, item_frame, items_of, tells_end}
-use Rattle.life_stack.specs.Seeing.{IsHandedAs}
-use Rattle.life_stack.specs.declared.script_service.ScriptBody.{ScriptBody}
+use Rattle.life_stack.specs.Stack.Driven.{BodyPlan, ScriptBodyStands, script_body_history}
+use Rattle.life_stack.specs.Table.Handed.{asked_before, asks_of, handed_at, handed_by, handed_from, room_before, room_past}
+use Rattle.life_stack.specs.Table.Request.{shown_headers}
+use Rattle.life_stack.specs.Service.Script.{Asked, ScriptFrames, ScriptLeaves, asked_of, item_frame, items_of, tells_end}
+use Rattle.life_stack.specs.Service.Handing.{IsHandedAs}
+use Rattle.life_stack.specs.declared.service.body.ScriptBody.{ScriptBody}
 
 -- LISTS.
 

@@ -5,16 +5,16 @@ use Rattle.std.specs.Prelude.{slice_get, nat_lt, nat_le, if◌then◌else◌}
 use Rattle.std.proofs.lemmas.Bool.{ltb-true, ltb-false, leb-false, lt-ltb, le-leb, lt-leb, cases_Bool}
 use Rattle.life_core.specs.Due.{due}
 use Rattle.http_header.specs.FieldValue.{FieldValue}
-use Rattle.life_stack.specs.Ident.{Numbered, ident}
+use Rattle.life_stack.specs.Table.Request.{Numbered, ident}
 use Rattle.life_script.specs.Views.{ReplyView}
 use Rattle.life_script.specs.declared.scenario.Limits.{Limits}
 use Rattle.life_script.specs.declared.scenario.PollItem.{PollItem}
 use Rattle.life_script.specs.declared.scenario.Then.{Then}
 use Rattle.life_script.specs.declared.scenario.Then.TheVariants as then_
-use Rattle.life_stack.specs.Story.{Outcome, Replied, Failed, replied, next, first_due, later, outcome_in, here_or_later, first_outcome, decided_outcome, ready_outcome, earlier, counted, due_reply, head}
-use Rattle.life_stack.specs.Handing.{Decision, TooLarge, Forbidden, Panicked, Served, decision, forbidden_reply, panic_reply, too_large_reply}
+use Rattle.life_stack.specs.Table.Story.{Failed, Outcome, Replied, counted, decided_outcome, due_reply, earlier, first_due, first_outcome, head, here_or_later, later, next, outcome_in, ready_outcome, replied}
+use Rattle.life_stack.specs.Table.Decision.{Decision, TooLarge, Forbidden, Panicked, Served, decision, forbidden_reply, panic_reply, too_large_reply}
 use Rattle.life_core.specs.History.{Said, Waits, Gives, Fails, said_with}
-use Rattle.life_stack.specs.Driven.{BodyPlan, Head, named, then_says, item_says, decided_says, reply_says, service_says}
+use Rattle.life_stack.specs.Stack.Driven.{BodyPlan, Head, named, then_says, item_says, decided_says, reply_says, service_says}
 
 -- the head that a poll with this index and this answer makes
 abbrev pub head_of : ℕ → Said Head BodyPlan (List ℕ) → Option (ℕ × Outcome)

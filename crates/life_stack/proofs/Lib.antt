@@ -7,13 +7,10 @@ pub mod Endings
 pub mod Failing
 pub mod Handing
 pub mod Heads
+pub mod Keeping
 pub mod Naming
 pub mod Pieces
-pub mod Places
-pub mod ReportLemmas
 pub mod Reports
-pub mod Runs
 pub mod ScriptFollows
-pub mod Sessions
 pub mod Shows
 pub mod Steps

@@ -23,13 +23,14 @@ use Rattle.life_script.specs.declared.scenario.Limits.{Limits}
 use Rattle.life_script.specs.Valid.{ScriptFits}
 use Rattle.life_script.specs.declared.checks.TheConstants.{MAX_HEADER_VALUES}
 use Rattle.life_script.proofs.HeaderMaps.{get_map, map_has_room, put_missing}
-use Rattle.life_stack.specs.Driven.{Head, Heads, TellsHead, named}
-use Rattle.life_stack.specs.Handing.{is_shut, is_too_large, room, seen_headers}
-use Rattle.life_stack.specs.Ident.{Numbered, ident}
-use Rattle.life_stack.specs.Script.{IsNumbered, IsRequestOf, ext_id, ext_number, items_of, with_id}
+use Rattle.life_stack.specs.Stack.Driven.{Head, Heads, TellsHead, named}
+use Rattle.life_stack.specs.Table.Decision.{is_shut, is_too_large, seen_headers}
+use Rattle.life_stack.specs.Table.Handed.{room}
+use Rattle.life_stack.specs.Table.Request.{Numbered, ident}
+use Rattle.life_stack.specs.Service.Script.{IsNumbered, IsRequestOf, ext_id, ext_number, items_of, with_id}
 use Rattle.life_stack.proofs.ScriptFollows.{AsksFor}
-use Rattle.life_stack.specs.declared.ext.Ext.{Ext}
-use Rattle.life_stack.specs.declared.script_service.ScriptBody.{ScriptBody}
+use Rattle.life_stack.specs.declared.service.ext.Ext.{Ext}
+use Rattle.life_stack.specs.declared.service.body.ScriptBody.{ScriptBody}
 
 -- A response's head gets the id where it has none.
 

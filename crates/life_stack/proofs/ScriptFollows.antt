@@ -19,13 +19,13 @@ use Rattle.life_script.specs.declared.scenario.CallItem.TheVariants as call_item
 use Rattle.life_script.specs.declared.scenario.PollItem.{PollItem}
 use Rattle.life_script.specs.declared.scenario.Then.{Then}
 use Rattle.life_script.specs.declared.scenario.Then.TheVariants as then_
-use Rattle.life_stack.specs.Driven.{Heads, ScriptStands, ScriptBodyStands, ServesOn, StandsBy, call_hands, call_tells, item_tells, script_history, then_tells}
-use Rattle.life_stack.specs.Handing.{asked_before, asks_of, handed_from, room_before}
-use Rattle.life_stack.specs.Script.{Answers, Asked, Finds, IsNumbered, PollsBy, Responds, ScriptAnswer, ScriptCalls, ScriptLeaves, ScriptPolls, asked_of, panic_for, panic_of, polls_for, polls_of, script_for}
-use Rattle.life_stack.specs.declared.ext.Ext.{Ext}
-use Rattle.life_stack.specs.declared.script_service.ScriptBody.{ScriptBody}
-use Rattle.life_stack.specs.declared.script_service.ScriptFuture.{ScriptFuture}
-use Rattle.life_stack.specs.declared.script_service.ScriptService.{ScriptService}
+use Rattle.life_stack.specs.Stack.Driven.{Heads, ScriptStands, ScriptBodyStands, ServesOn, StandsBy, call_hands, call_tells, item_tells, script_history, then_tells}
+use Rattle.life_stack.specs.Table.Handed.{asked_before, asks_of, handed_from, room_before}
+use Rattle.life_stack.specs.Service.Script.{Answers, Asked, Finds, IsNumbered, PollsBy, Responds, ScriptAnswer, ScriptCalls, ScriptLeaves, ScriptPolls, asked_of, panic_for, panic_of, polls_for, polls_of, script_for}
+use Rattle.life_stack.specs.declared.service.ext.Ext.{Ext}
+use Rattle.life_stack.specs.declared.service.body.ScriptBody.{ScriptBody}
+use Rattle.life_stack.specs.declared.service.future.ScriptFuture.{ScriptFuture}
+use Rattle.life_stack.specs.declared.service.ScriptService.{ScriptService}
 use Rattle.life_stack.proofs.Handing.{asked_none, first_left, from_there, items_there, one_less, room_there}
 
 -- its headers are short enough for a map

@@ -5,23 +5,30 @@ use Rattle.http_body.specs.declared.frame.Frame.{Frame}
 use Rattle.life_core.specs.Recorded.{Recorded}
 use Rattle.life_core.specs.History.{Grew}
 use Rattle.life_core.specs.declared.poll.Poll.TheVariants.{Ready}
-use Rattle.life_stack.specs.Ident.{Numbered}
+use Rattle.life_stack.specs.Table.Request.{Numbered}
 use Rattle.life_script.specs.declared.answer.Seen.{Seen}
 use Rattle.life_script.specs.declared.answer.Answer.TheVariants as ans
 use Rattle.life_script.specs.declared.scenario.Act.TheVariants as act
 use Rattle.life_script.specs.declared.scenario.Limits.{Limits}
-use Rattle.life_stack.specs.Own.{Own, called_at, polls, dropped_at}
-use Rattle.life_stack.specs.Story.{Failed, head, by_head, drop_answer, drop_events, on_call, on_poll, on_poll_events, on_drop, answer, drops, events, poll_events}
-use Rattle.life_stack.specs.Seeing.{Shows}
-use Rattle.life_stack.specs.Driven.{DriveFuture, DriveBody, drive_ends}
-use Rattle.life_stack.specs.LiveAt.{LiveAt, Shown}
-use Rattle.life_stack.specs.StandsAt.{FreshAt, FutureAt, BodyAt, IsGone, OverAt, BodyPolled, FuturePolled}
-use Rattle.life_stack.specs.declared.live.Live.{Live}
-use Rattle.life_stack.specs.declared.live.Live.TheVariants as live
+use Rattle.life_session.specs.Acts.{Own}
+use Rattle.life_stack.specs.Table.Request.{called_at, dropped_at, polls}
+use Rattle.life_stack.specs.Table.Story.{Failed, answer, by_head, drop_answer, drop_events, drops, events, head, on_call, on_drop, on_poll, on_poll_events, poll_events}
+use Rattle.life_session.specs.Table.{Shows}
+use Rattle.life_stack.specs.Stack.Driven.{DriveFuture, DriveBody, drive_ends}
+use Rattle.life_session.specs.Table.{Framed, Polled}
+use Rattle.life_stack.specs.Stack.StandsAt.{BodyAt, FreshAt, FutureAt, IsGone, OverAt}
+use Rattle.life_stack.specs.Stack.Keeping.{drive_places, drive_table}
+use Rattle.life_script.specs.declared.answer.Answer.{Answer}
 use Rattle.life_stack.proofs.Acts.{called_kept, poll_uncalled, drop_uncalled, polls_after_call, polls_after_poll, dropped_after_call, dropped_after_poll, dropped_now, dropped_kept, not_before_push}
 use Rattle.life_stack.proofs.Answering.{answer_above_head, none_later}
 use Rattle.life_stack.proofs.Heads.{head_below, head_kept}
 use Rattle.life_stack.proofs.Steps.{any_next, kind_next, or_no}
+
+-- the answer and the events of an act are the table's, and what is live afterwards stands
+pub record Shown (limits : Limits) (script : Numbered) (before : List Own) (x : Own) (was : Recorded) (at : Type 0) (a : Answer) (now : Recorded) : Type 0 where
+  pub live : at
+  pub answer_is : a ≡ answer limits script before x
+  pub log : now.log ≡ was.log ++ events limits script before x
 
 module _ (limits : Limits) (script : Numbered) (before : List Own) where
   -- a Drop changes nothing in the early drop of a time
@@ -33,7 +40,7 @@ module _ (limits : Limits) (script : Numbered) (before : List Own) where
       rw (more, c, ending, kind) refl
 
   dropped_shown : (was now : Recorded) (t t0 : ℕ) → called_at before ≡ Some t0 → dropped_at before ≡ None → drop_answer (head limits script t0 (polls before)) ≡ ans.Dropped → Grew was now (drops limits script before t) →
-      Shown limits script before (t, act.Drop) was (live.Over, ans.Dropped) now
+      Shown limits script before (t, act.Drop) was (OverAt limits script (before ++ (t, act.Drop) ∷ [])) ans.Dropped now
   dropped_shown was now t t0 c d n g =
       let a : answer limits script before (t, act.Drop) ≡ ans.Dropped = ap (λ o. on_drop limits script o (dropped_at before) (polls before)) c ∙ ap (λ o. on_drop limits script (Some t0) o (polls before)) d ∙ n in record {
         live = record { t0 = t0; called = called_kept before (t, act.Drop) t0 c; gone = inl (t, dropped_now before t0 c t d) };
@@ -42,31 +49,16 @@ module _ (limits : Limits) (script : Numbered) (before : List Own) where
       }
 
   pub future_dropped : (f : DriveFuture) (was now : Recorded) (t : ℕ) → FutureAt limits script before f → Grew was now (drops limits script before t) →
-      Shown limits script before (t, act.Drop) was (live.Over, ans.Dropped) now
+      Shown limits script before (t, act.Drop) was (OverAt limits script (before ++ (t, act.Drop) ∷ [])) ans.Dropped now
   future_dropped f was now t at g = dropped_shown was now t at.t0 at.called at.undropped (ap drop_answer at.unanswered) g
 
   pub body_dropped : (b : DriveBody) (was now : Recorded) (t : ℕ) → BodyAt limits script before b → Grew was now (drops limits script before t) →
-      Shown limits script before (t, act.Drop) was (live.Over, ans.Dropped) now
+      Shown limits script before (t, act.Drop) was (OverAt limits script (before ++ (t, act.Drop) ∷ [])) ans.Dropped now
   body_dropped b was now t at g = dropped_shown was now t at.t0 at.called at.undropped (ap drop_answer at.head_is) g
 
-  -- a service error
-  pub failed_shown : (was mid now : Recorded) (t : ℕ) (error : List ℕ) (new : DriveFuture) → FuturePolled limits script before t was (Ready (Err error)) new mid → Grew mid now [] →
-      Shown limits script before (t, act.Poll) was (live.Over, ans.ServiceError error) now
-  failed_shown was mid now t error new p g = record { live = p.left.1; answer_is = sym p.said; log = g.log ∙ append-nil mid.log ∙ p.grew.log }
-
-  -- a frame
-  pub frame_shown : (was now : Recorded) (t : ℕ) (f : Frame (List ℕ)) (new : DriveBody) (held : Seen) (ended : Bool) →
-      BodyPolled limits script before t was (Ready (Some (Ok f))) new now → ended ≡ drive_ends new → ((s : Seen) → Shows s f → held ≡ s) →
-      Shown limits script before (t, act.Poll) was (live.Body new, ans.Frame held ended) now
-  frame_shown was now t f new held ended p e s = record {
-    live = p.left;
-    answer_is = ap (λ x. ans.Frame x ended) (s p.said.0 p.said.1) ∙ ap (ans.Frame p.said.0) e ∙ sym p.said.2;
-    log = p.grew.log;
-  }
-
   -- Nothing is done.
-  idle_shown : (was : Recorded) (x : Own) (l : Live) → answer limits script before x ≡ ans.Idle → events limits script before x ≡ [] → LiveAt limits script (before ++ x ∷ []) l → Shown limits script before x was (l, ans.Idle) was
-  idle_shown was x l a none at = record { live = at; answer_is = sym a; log = sym (append-nil was.log) ∙ ap (λ es. was.log ++ es) (sym none) }
+  idle_shown : (was : Recorded) (x : Own) (at : Type 0) → answer limits script before x ≡ ans.Idle → events limits script before x ≡ [] → at → Shown limits script before x was at ans.Idle was
+  idle_shown was x live a none at = record { live = at; answer_is = sym a; log = sym (append-nil was.log) ∙ ap (λ es. was.log ++ es) (sym none) }
 
   -- an idle Drop records nothing
   drop_idle : (t : ℕ) → answer limits script before (t, act.Drop) ≡ ans.Idle → events limits script before (t, act.Drop) ≡ []
@@ -79,22 +71,22 @@ module _ (limits : Limits) (script : Numbered) (before : List Own) where
     kind = kind_next limits script before x ans.Idle a ∙ at.kind;
   }
 
-  pub fresh_polled : (was : Recorded) (t : ℕ) → FreshAt limits script before → Shown limits script before (t, act.Poll) was (live.Fresh, ans.Idle) was
+  pub fresh_polled : (was : Recorded) (t : ℕ) → FreshAt limits script before → Shown limits script before (t, act.Poll) was (FreshAt limits script (before ++ (t, act.Poll) ∷ [])) ans.Idle was
   fresh_polled was t at =
       let a = ap (λ c. on_poll limits script c (dropped_at before) (polls before ++ t ∷ []) (length (polls before))) at.uncalled in
       let none = ap (λ c. on_poll_events limits script c (dropped_at before) (polls before ++ t ∷ []) (length (polls before)) t) at.uncalled in
-      idle_shown was (t, act.Poll) live.Fresh a none (fresh_more (t, act.Poll) at a (poll_uncalled before t at.uncalled))
+      idle_shown was (t, act.Poll) _ a none (fresh_more (t, act.Poll) at a (poll_uncalled before t at.uncalled))
 
-  pub fresh_dropped : (was : Recorded) (t : ℕ) → FreshAt limits script before → Shown limits script before (t, act.Drop) was (live.Fresh, ans.Idle) was
+  pub fresh_dropped : (was : Recorded) (t : ℕ) → FreshAt limits script before → Shown limits script before (t, act.Drop) was (FreshAt limits script (before ++ (t, act.Drop) ∷ [])) ans.Idle was
   fresh_dropped was t at =
       let a = ap (λ c. on_drop limits script c (dropped_at before) (polls before)) at.uncalled in
-      idle_shown was (t, act.Drop) live.Fresh a (drop_idle t a) (fresh_more (t, act.Drop) at a (drop_uncalled before t at.uncalled))
+      idle_shown was (t, act.Drop) _ a (drop_idle t a) (fresh_more (t, act.Drop) at a (drop_uncalled before t at.uncalled))
 
-  pub future_called : (was : Recorded) (f : DriveFuture) (t : ℕ) → FutureAt limits script before f → Shown limits script before (t, act.Call) was (live.Future f, ans.Idle) was
+  pub future_called : (was : Recorded) (f : DriveFuture) (t : ℕ) → FutureAt limits script before f → Shown limits script before (t, act.Call) was (FutureAt limits script (before ++ (t, act.Call) ∷ []) f) ans.Idle was
   future_called was f t at =
       let a : answer limits script before (t, act.Call) ≡ ans.Idle = ap on_call at.called in
       let same = polls_after_call before at.t0 at.called t in
-      idle_shown was (t, act.Call) (live.Future f) a refl (record {
+      idle_shown was (t, act.Call) _ a refl (record {
         t0 = at.t0;
         past = at.past;
         called = called_kept before (t, act.Call) at.t0 at.called;
@@ -107,11 +99,11 @@ module _ (limits : Limits) (script : Numbered) (before : List Own) where
         stands = at.stands;
       })
 
-  pub body_called : (was : Recorded) (b : DriveBody) (t : ℕ) → BodyAt limits script before b → Shown limits script before (t, act.Call) was (live.Body b, ans.Idle) was
+  pub body_called : (was : Recorded) (b : DriveBody) (t : ℕ) → BodyAt limits script before b → Shown limits script before (t, act.Call) was (BodyAt limits script (before ++ (t, act.Call) ∷ []) b) ans.Idle was
   body_called was b t at =
       let a : answer limits script before (t, act.Call) ≡ ans.Idle = ap on_call at.called in
       let same = polls_after_call before at.t0 at.called t in
-      idle_shown was (t, act.Call) (live.Body b) a refl (record {
+      idle_shown was (t, act.Call) _ a refl (record {
         t0 = at.t0;
         h = at.h;
         ph = at.ph;
@@ -158,5 +150,5 @@ module _ (limits : Limits) (script : Numbered) (before : List Own) where
   gone_more (t, act.Poll) t0 c (inr g) = inr (g.0, g.1, dropped_after_poll before t0 c t ∙ g.2, ap (head limits script t0) (polls_after_poll before t0 c t g.2) ∙ head_kept limits script t0 (polls before) t (g.0, Failed g.1) g.3)
   gone_more (t, act.Drop) t0 c (inr g) = inl (t, dropped_now before t0 c t g.2)
 
-  pub over_idle : (was : Recorded) (x : Own) → OverAt limits script before → Shown limits script before x was (live.Over, ans.Idle) was
-  over_idle was x at = idle_shown was x live.Over (gone_answer x at.t0 at.called at.gone) (gone_events x at.t0 at.called at.gone) (record { t0 = at.t0; called = called_kept before x at.t0 at.called; gone = gone_more x at.t0 at.called at.gone })
+  pub over_idle : (was : Recorded) (x : Own) → OverAt limits script before → Shown limits script before x was (OverAt limits script (before ++ x ∷ [])) ans.Idle was
+  over_idle was x at = idle_shown was x _ (gone_answer x at.t0 at.called at.gone) (gone_events x at.t0 at.called at.gone) (record { t0 = at.t0; called = called_kept before x at.t0 at.called; gone = gone_more x at.t0 at.called at.gone })

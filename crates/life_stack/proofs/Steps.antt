@@ -20,21 +20,24 @@ use Rattle.life_drop.specs.Stands.{ended, unless_ended}
 use Rattle.life_core.specs.declared.event.DropKind.{DropKind}
 use Rattle.life_core.specs.declared.event.DropKind.TheVariants as drop_kind
 use Rattle.life_core.specs.declared.event.Event.{Event}
-use Rattle.life_stack.specs.Ident.{Numbered}
+use Rattle.life_stack.specs.Table.Request.{Numbered}
 use Rattle.life_script.specs.Views.{ReplyView}
 use Rattle.life_script.specs.declared.answer.Answer.{Answer}
 use Rattle.life_script.specs.declared.answer.Answer.TheVariants as ans
 use Rattle.life_script.specs.declared.scenario.Act.TheVariants as act
 use Rattle.life_script.specs.declared.scenario.Limits.{Limits}
-use Rattle.life_stack.specs.Own.{Own, NotBefore, polls_before_drop, first_drop, polls, dropped_at}
-use Rattle.life_stack.specs.Story.{Outcome, Replied, Failed, head, tells_after, body_answer, by_head, on_call, on_poll, on_poll_events, answer, answers, is_ending, any_ending, kind_after, kind_of, drops, events, poll_events, undue_events}
-use Rattle.life_stack.specs.Handing.{shown_headers}
-use Rattle.life_stack.specs.Driven.{DriveStack, DriveFuture, DriveBody, drive_calls, drive_polls, drive_leaves, drive_frames, drive_body_leaves, drive_ends, Head, TellsHead, BodyPlan, Plan, body_plan, plan, StackStands, FutureStands, BodyStands, future_history, body_history, timed_body_history}
-use Rattle.life_stack.specs.StandsAt.{FreshAt, FutureAt, FutureAnswered, BodyAt, FutureSaid, FutureLeft, FuturePolled, BodySaid, BodyPolled, Called}
+use Rattle.life_session.specs.Acts.{NotBefore, Own}
+use Rattle.life_stack.specs.Table.Request.{dropped_at, first_drop, polls, polls_before_drop}
+use Rattle.life_stack.specs.Table.Story.{Failed, Outcome, Replied, answer, answers, any_ending, body_answer, by_head, drops, events, head, is_ending, kind_after, kind_of, on_call, on_poll, on_poll_events, poll_events, tells_after, undue_events}
+use Rattle.life_stack.specs.Table.Request.{shown_headers}
+use Rattle.life_stack.specs.Stack.Driven.{DriveStack, DriveFuture, DriveBody, drive_calls, drive_polls, drive_leaves, drive_frames, drive_body_leaves, drive_ends, Head, TellsHead, BodyPlan, Plan, body_plan, plan, StackStands, FutureStands, BodyStands, future_history, body_history, timed_body_history}
+use Rattle.life_session.specs.Table.{CalledAt, FrameSaid, Framed, PollLeft, PollSaid, Polled}
+use Rattle.life_stack.specs.Stack.StandsAt.{BodyAt, FreshAt, FutureAnswered, FutureAt}
+use Rattle.life_stack.specs.Stack.Keeping.{drive_places, drive_table}
 use Rattle.life_script.specs.Valid.{ScriptFits}
-use Rattle.life_stack.specs.Script.{IsRequestOf}
-use Rattle.life_stack.specs.declared.ext.Ext.{Ext}
-use Rattle.life_stack.specs.declared.script_service.ScriptBody.{ScriptBody}
+use Rattle.life_stack.specs.Service.Script.{IsRequestOf}
+use Rattle.life_stack.specs.declared.service.ext.Ext.{Ext}
+use Rattle.life_stack.specs.declared.service.body.ScriptBody.{ScriptBody}
 use Rattle.life_stack.proofs.Heads.{head_of, head_kept, length_push, no_head}
 use Rattle.life_stack.proofs.Acts.{called_kept, called_now, after_now, polls_after_poll, dropped_after_poll, answers_push, any_ending_push, kind_of_push, not_before_push}
 use Rattle.life_stack.proofs.Answering.{timed_says, head_said, answer_at_head, answer_above_head, last_poll, earlier_poll, ending_said, body_table, frame_events, none_later, up_to_now}
@@ -52,7 +55,7 @@ module _ (limits : Limits) (script : Numbered) where
   or_no false = refl
 
   -- The first Call.
-  called_steps : (before : List Own) (t : ℕ) (was : Recorded) (f : DriveFuture) (now : Recorded) → FreshAt limits script before → FutureStands limits script t f (Waiting []) → Grew was now [] → Called limits script before t was f now
+  called_steps : (before : List Own) (t : ℕ) (was : Recorded) (f : DriveFuture) (now : Recorded) → FreshAt limits script before → FutureStands limits script t f (Waiting []) → Grew was now [] → CalledAt drive_places drive_table (limits, script) before t was f now
   called_steps before t was f now at s g =
       let a : answer limits script before (t, act.Call) ≡ ans.Called = ap on_call at.uncalled in
       let no_polls : polls (before ++ (t, act.Call) ∷ []) ≡ [] = ap polls_before_drop (after_now before t at.uncalled) in record {
@@ -77,7 +80,7 @@ module _ (limits : Limits) (script : Numbered) where
   fits_of s k = (((((((k.inner).inner).inner).inner).inner).inner).inner).1
 
   pub stack_called : (before : List Own) (was now : Recorded) (m : Moment) (s new : DriveStack) (req : Request ScriptBody Ext) (made : Result DriveFuture NoMemory) → IsRequestOf script.script script.number req →
-      FreshAt limits script before → StackStands limits script s → drive_calls s req was m made new now → IfOk made (λ f. Called limits script before m.now was f now)
+      FreshAt limits script before → StackStands limits script s → drive_calls s req was m made new now → IfOk made (λ f. CalledAt drive_places drive_table (limits, script) before m.now was f now)
   stack_called before was now m s new req (Ok f) n at k c = let g = (stack_follows limits script).call s req was m f new now (n, fits_of s k) k c in called_steps before m.now was f now at g.1 g.2
   stack_called before was now m s new req (Err e) n at k c = tt
 
@@ -109,7 +112,7 @@ module _ (limits : Limits) (script : Numbered) where
         head limits script at.t0 (polls before ++ t ∷ []) ≡ head_of (length (polls before)) said →
         Matches TellsHead (BodyStands limits at.t0) (said_under {P = ℕ × BodyPlan} {Q = Plan} (λ head p. (head, p)) (said_under {P = BodyPlan} {Q = ℕ × BodyPlan} (λ head p. (t, p)) said)) a →
         FutureStands limits script at.t0 new (where_after at.past t a) →
-        FutureSaid a (answer limits script before (t, act.Poll)) × FutureLeft limits script (before ++ (t, act.Poll) ∷ []) a new
+        PollSaid drive_ends a (answer limits script before (t, act.Poll)) × PollLeft drive_places (limits, script) (before ++ (t, act.Poll) ∷ []) a new
     by_answer t new Waits Pending e m stands =
         let a : answer limits script before (t, act.Poll) ≡ ans.Pending = poll_by_head t None e in (
           a,
@@ -177,7 +180,7 @@ module _ (limits : Limits) (script : Numbered) where
     by_answer t new (Gives said r) (Ready (Err x)) e m stands = absurd m
 
     pub future_polled : (was now : Recorded) (m : Moment) (made : Reply DriveBody Ext (List ℕ)) (new : DriveFuture) → drive_polls f was m made new now →
-        IfOk made (λ a. FuturePolled limits script before m.now was a new now)
+        IfOk made (λ a. Polled drive_ends drive_places drive_table (limits, script) before m.now was a new now)
     future_polled was now m (Err e) new p = tt
     future_polled was now m (Ok a) new p =
         let i = (future_follows limits script at.t0).poll at.past f was m a new now at.stands p in
@@ -214,7 +217,7 @@ module _ (limits : Limits) (script : Numbered) where
   module _ (before : List Own) (b : DriveBody) (at : BodyAt limits script before b) where
     frame_steps : (was now : Recorded) (t : ℕ) (x : Poll (Option (Result (Frame (List ℕ)) (BodyError (List ℕ))))) (new : DriveBody) → NotBefore t before →
         FrameSteps (BodyStands limits at.t0) (body_history limits at.t0 (plan at.reply at.ph)) (plan at.reply at.ph) at.past was t x new now →
-        BodyPolled limits script before t was x new now
+        Framed drive_ends drive_places drive_table (limits, script) before t was x new now
     frame_steps was now t x new order i =
         let hist = timed_body_history limits (at.ph, body_plan at.reply) in
         let ps = polls before in
@@ -233,7 +236,7 @@ module _ (limits : Limits) (script : Numbered) where
         ∙ ap (λ y. body_answer limits at.reply y (slice_index (ps ++ t ∷ []) k) (k - suc at.h)) (earlier_poll ps t at.h below ∙ at.at_head)
         ∙ ap (λ y. body_answer limits at.reply at.ph y (k - suc at.h)) (last_poll ps t)
         ∙ ap (body_answer limits at.reply at.ph t) place in
-        let said : BodySaid x (drive_ends new) (answer limits script before (t, act.Poll)) =
+        let said : FrameSaid x (drive_ends new) (answer limits script before (t, act.Poll)) =
         rw (i.answer, tells, table) (body_table limits at.ph at.reply at.past t latest) in
         record {
           said = said;
@@ -262,14 +265,14 @@ module _ (limits : Limits) (script : Numbered) where
               ∙ none_later limits script at.t0 k t at.h (Replied at.reply) below)) i.grew;
         }
       where
-        kind_said : (x : Poll (Option (Result (Frame (List ℕ)) (BodyError (List ℕ))))) (e : Bool) (a : Answer) (what : DropKind) → BodySaid x e a → kind_after what a ≡ what
+        kind_said : (x : Poll (Option (Result (Frame (List ℕ)) (BodyError (List ℕ))))) (e : Bool) (a : Answer) (what : DropKind) → FrameSaid x e a → kind_after what a ≡ what
         kind_said Pending e a what s = ap (kind_after what) s
         kind_said (Ready None) e a what s = ap (kind_after what) s
         kind_said (Ready (Some (Ok f))) e a what s = ap (kind_after what) s.2
         kind_said (Ready (Some (Err x))) e a what s = ap (kind_after what) s
 
     pub body_polled : (was now : Recorded) (m : Moment) (made : BodyAnswer (List ℕ) (BodyError (List ℕ))) (new : DriveBody) → NotBefore m.now before → drive_frames b was m made new now →
-        IfOk made (λ a. BodyPolled limits script before m.now was a new now)
+        IfOk made (λ a. Framed drive_ends drive_places drive_table (limits, script) before m.now was a new now)
     body_polled was now m (Err e) new order p = tt
     body_polled was now m (Ok a) new order p =
         frame_steps was now m.now a new order ((body_follows limits at.t0).frame (plan at.reply at.ph) at.past b was m a new now (at.latest m.now order) at.stands p)

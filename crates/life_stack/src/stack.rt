@@ -4,23 +4,29 @@ ghost use Rattle.life_core.specs.History.{Grew};
 ghost use Rattle.life_core.specs.Moment.{SameContext};
 ghost use Rattle.life_core.specs.Poll.{IfReady, OnPending};
 ghost use Rattle.life_script.specs.ScriptView.{ScriptView};
-ghost use Rattle.life_stack.specs.Driven.{BodyMay, FutureLive, FutureMay, StackMay, StackStands};
-ghost use Rattle.life_stack.specs.Own.{NotBefore, Own};
-ghost use Rattle.life_stack.specs.StandsAt.{BodyAt, BodyPolled, Called, FreshAt, FutureAnswered, FutureAt, FuturePolled};
-ghost use Rattle.life_stack.specs.Script.{IsRequestOf};
-ghost use Rattle.life_stack.specs.Ident.{Numbered, numbered};
+ghost use Rattle.life_stack.specs.Stack.Driven.{BodyMay, FutureLive, FutureMay, StackMay, StackStands, drive_ends};
+ghost use Rattle.life_session.specs.Acts.{NotBefore, Own};
+ghost use Rattle.life_session.specs.Table.{CalledAt, Framed, Polled};
+ghost use Rattle.life_stack.specs.Stack.StandsAt.{BodyAt, FreshAt, FutureAnswered, FutureAt};
+ghost use Rattle.life_stack.specs.Stack.Keeping.{drive_places, drive_table};
+ghost use Rattle.life_stack.specs.Service.Script.{IsRequestOf};
+ghost use Rattle.life_stack.specs.Table.Request.{Numbered, numbered};
 ghost use Rattle.life_script.specs.Valid.{IsValid, ScriptFits};
-ghost use Rattle.life_stack.specs.Story.{drops};
+ghost use Rattle.life_stack.specs.Table.Story.{drops};
 ghost use Rattle.life_script.specs.declared.scenario.Limits.{Limits as LimitsView};
 
-use crate::ext::Ext;
-use crate::script_service::{ScriptBody, ScriptService};
+pub mod driving;
+pub mod keeping;
+
+use crate::service::ScriptService;
+use crate::service::body::ScriptBody;
+use crate::service::ext::Ext;
 use bytes::Bytes;
 use http::HeaderName;
 use http_body::Frame;
 use life_core::{
-    Body, BodyError, Cx, Full, Future, Got, NoMemory, Poll, Recorder, Request, Response, Service,
-    Spend, Text, Twin, UnsyncBoxBody,
+    Body, BodyError, Cx, Full, Future, Got, Poll, Recorder, Request, Response, Service, Spend,
+    Text, Twin, UnsyncBoxBody,
 };
 use life_drop::on_early_drop::{NoteDrop, NoteDropped, OnEarlyDropBody, OnEarlyDropService};
 use life_gate::validate_request::{RequiredHeaderValue, ValidateRequestHeader};
@@ -28,6 +34,7 @@ use life_head::request_id::{ByNumber, Number, PropagateRequestId, SetRequestId};
 use life_limit::catch_panic::{CatchPanic, DefaultResponseForPanic};
 use life_limit::limit::{RequestBodyLimit, ResponseBody};
 use life_script::{Limits, Scenario, Script, Scripts};
+use life_session::share;
 use life_time::timeout::{DeadlineBody, ResponseBodyDeadline, Timeout};
 use std::alloc::Global;
 use std::convert::Infallible;
@@ -92,17 +99,6 @@ pub fn drive_stack(alloc: Global, limits: &Limits, scenario: &Scenario) -> Got<D
     }
 }
 
-/// Twins of scripts, to be shared. The one error is want of memory.
-pub(crate) fn share(alloc: Global, scripts: &Scripts) -> Got<Rc<Scripts>>
-    ensures { IfOk result (λ shared. shared.value.items ≡ scripts.now.items) }
-{
-    let scripts = scripts.twin_items(alloc)?;
-    match Rc::new(alloc, scripts) {
-        Ok(shared) => Ok(shared),
-        Err(_) => Err(NoMemory),
-    }
-}
-
 /// The request of a script and its number: GET `/` in HTTP/1.1, with the script's headers in order and its
 /// body. The one error is want of memory.
 pub(crate) fn request_of(
@@ -142,7 +138,7 @@ pub fn call_stack<L: Recorder>(
 ) -> Got<DriveFuture<L>>
     requires { StackMay stack.old }
     ensures called { (limits : LimitsView) (script : Numbered) (acts : List Own) → IsRequestOf script.script script.number request → FreshAt limits script acts → StackStands limits script stack.old
-        → IfOk result (λ f. Called limits script acts cx.old.now (L.recorded cx.old.rec.now) f (L.recorded cx.new.rec.now)) }
+        → IfOk result (λ f. CalledAt drive_places drive_table (limits, script) acts cx.old.now (L.recorded cx.old.rec.now) f (L.recorded cx.new.rec.now)) }
     ensures kept { (limits : LimitsView) (script : Numbered) → StackStands limits script stack.old → StackStands limits script stack.new }
     ensures may { StackMay stack.new }
     ensures live { IfOk result FutureLive }
@@ -163,7 +159,7 @@ pub fn poll_future<L: Recorder>(
     requires live { FutureLive future.old }
     requires may { FutureMay future.old }
     ensures polled { (limits : LimitsView) (script : Numbered) (acts : List Own) → FutureAt limits script acts future.old
-        → IfOk result (λ answer. FuturePolled limits script acts cx.old.now (L.recorded cx.old.rec.now) answer future.new (L.recorded cx.new.rec.now)) }
+        → IfOk result (λ answer. Polled drive_ends drive_places drive_table (limits, script) acts cx.old.now (L.recorded cx.old.rec.now) answer future.new (L.recorded cx.new.rec.now)) }
     ensures live { IfOk result (λ answer. OnPending answer (FutureLive future.new)) }
     ensures body { IfOk result (λ answer. IfReady answer (λ answer. IfOk answer (λ response. BodyMay response.body))) }
     ensures may { FutureMay future.new }
@@ -201,7 +197,7 @@ pub fn poll_body<L: Recorder>(
 ) -> Got<Poll<Option<Result<Frame<Bytes>, BodyError<Text>>>>>
     requires { BodyMay body.old }
     ensures polled { (limits : LimitsView) (script : Numbered) (acts : List Own) → NotBefore cx.old.now acts → BodyAt limits script acts body.old
-        → IfOk result (λ answer. BodyPolled limits script acts cx.old.now (L.recorded cx.old.rec.now) answer body.new (L.recorded cx.new.rec.now)) }
+        → IfOk result (λ answer. Framed drive_ends drive_places drive_table (limits, script) acts cx.old.now (L.recorded cx.old.rec.now) answer body.new (L.recorded cx.new.rec.now)) }
     ensures may { BodyMay body.new }
     ensures context { SameContext L.place cx.old cx.new }
 {

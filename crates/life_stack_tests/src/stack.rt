@@ -1,6 +1,6 @@
 //! The stack by hand: one request, call by call.
 ghost use Rattle.std.specs.Prelude.{IfOk};
-ghost use Rattle.life_stack.specs.Driven.{BodyMay, StackMay};
+ghost use Rattle.life_stack.specs.Stack.Driven.{BodyMay, StackMay};
 
 use crate::asserting::number_is;
 use crate::fixtures::{limits, ready_requests};

@@ -1,0 +1,123 @@
+//! The exchanges of a session, one for each request.
+ghost use Rattle.std.specs.Prelude.{◌≡◌, ℕ, ◌≤◌, ◌<◌, ◌+◌, [], List, length, slice_get, slice_set, Some, IfOk};
+ghost use Rattle.std.specs.List.{All, AllZip};
+ghost use Rattle.life_session.specs.Exchange.{IsFresh, MayGoOn};
+ghost use Rattle.life_session.specs.Session.{May, RunsOn, Tells};
+
+use crate::exchange::live::Live;
+use crate::exchange::{Exchange, begin_exchange, idle_exchange, leave, take_turn, tell};
+use crate::table::Driven;
+use life_core::{Got, NoMemory};
+use life_script::{Script, Step, ToldList};
+use std::alloc::{AllocFailed, Global};
+use std::mem;
+
+/// Gives up all exchanges at a time; what that records is lost.
+pub(crate) fn leave_all<D: Driven>(
+    exchanges: Vec<Exchange<D::Future, D::Body>>,
+    at: u64,
+    alloc: Global,
+)
+    requires { All (May D.meaning) exchanges.items }
+{
+    let mut rest = exchanges.into_iter();
+    while let Some(exchange) = rest.next() {
+        leave::<D>(exchange, at, alloc);
+    }
+    rest.destroy_empty();
+}
+
+/// An exchange for each request, with room for as many turns as are counted. The one error is want of memory.
+pub(crate) fn begin_all<D: Driven>(
+    alloc: Global,
+    counts: &[u64],
+) -> Got<Vec<Exchange<D::Future, D::Body>>>
+    ensures may { IfOk result (λ exchanges. All (May D.meaning) exchanges.items) }
+    ensures fresh { IfOk result (λ exchanges. AllZip IsFresh counts.now exchanges.items) }
+{
+    let mut exchanges = Vec::new(alloc);
+    for count in counts {
+        let exchange = match begin_exchange::<D::Future, D::Body>(alloc, *count) {
+            Ok(exchange) => exchange,
+            Err(no_memory) => {
+                leave_all::<D>(exchanges, 0, alloc);
+                return Err(no_memory);
+            }
+        };
+        if let Err(AllocFailed { value }) = exchanges.push(exchange) {
+            leave::<D>(value, 0, alloc);
+            leave_all::<D>(exchanges, 0, alloc);
+            return Err(NoMemory);
+        }
+    }
+    Ok(exchanges)
+}
+
+/// Puts an exchange in a place where nothing is live.
+fn put<F, B>(exchanges: &mut Vec<Exchange<F, B>>, i: usize, exchange: Exchange<F, B>)
+    requires within { i < length exchanges.old.items }
+    requires over { (e : _) → slice_get exchanges.old.items i ≡ Some e → e.live ≡ Live.Over }
+    ensures { exchanges.new.items ≡ slice_set exchanges.old.items i exchange }
+{
+    let Exchange {
+        live,
+        log: _,
+        turns: _,
+    } = mem::replace(&mut exchanges[i], exchange);
+    match live {
+        Live::Over => (),
+        _ => unreachable!(),
+    }
+}
+
+/// Runs a step in the exchange of its request. Where it is refused for memory, what was live of that request
+/// was given up; a Drop is not refused.
+pub(crate) fn run_step<D: Driven>(
+    stack: &mut D::Stack,
+    scripts: &[Script],
+    exchanges: &mut Vec<Exchange<D::Future, D::Body>>,
+    step: Step,
+    alloc: Global,
+) -> Got<()>
+    requires may { All (May D.meaning) exchanges.old.items }
+    requires may_stack { D.meaning.may stack.old }
+    requires within { step.request < length exchanges.old.items }
+    requires scripted { length exchanges.old.items ≡ length scripts.now }
+    requires room { (e : _) → slice_get exchanges.old.items step.request ≡ Some e → 1 ≤ e.turns.spare }
+    ensures may { All (May D.meaning) exchanges.new.items }
+    ensures may_stack { D.meaning.may stack.new }
+    ensures kept { (k : D.Key) → D.meaning.places.serves k stack.old → D.meaning.places.serves k stack.new }
+    ensures ran { RunsOn D.meaning stack.old step scripts.now exchanges.old.items result exchanges.new.items }
+{
+    let i = step.request as usize;
+    let exchange = mem::replace(&mut exchanges[i], idle_exchange(alloc));
+    D::tells_nothing();
+    match take_turn::<D>(stack, &scripts[i], exchange, step, alloc) {
+        Ok(exchange) => {
+            put(exchanges, i, exchange);
+            Ok(())
+        }
+        Err(no_memory) => Err(no_memory),
+    }
+}
+
+/// What is told of each request, in order, where all steps were run and the end is at a time. The list has
+/// room for it, so it takes no memory.
+pub(crate) fn tell_all<D: Driven>(
+    exchanges: Vec<Exchange<D::Future, D::Body>>,
+    end: u64,
+    mut told: ToldList,
+    alloc: Global,
+) -> ToldList
+    requires may { All (May D.meaning) exchanges.items }
+    requires empty { told.items ≡ [] }
+    requires room { length exchanges.items ≤ told.spare }
+    ensures { AllZip (Tells D.meaning end) exchanges.items result.items }
+{
+    let mut rest = exchanges.into_iter();
+    while let Some(exchange) = rest.next() {
+        told.put_back(tell::<D>(exchange, end, alloc));
+    }
+    rest.destroy_empty();
+    told
+}

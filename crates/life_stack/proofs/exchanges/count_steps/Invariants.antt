@@ -1,6 +1,0 @@
-use Rattle.std.proofs.Common.{take}
-use Rattle.life_stack.specs.SessionView.{Counts}
-use Rattle.life_stack.proofs.exchanges.count_steps.Given as goal
-
-abbrev pub invariant-loop-step : goal.invariant-loop-step
-invariant-loop-step l = Counts l.requests (take l.step-index l.steps) l.counts.items

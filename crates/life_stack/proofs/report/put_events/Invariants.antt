@@ -1,6 +1,0 @@
-use Rattle.std.proofs.Common.{◌≡◌, ◌++◌, take}
-use Rattle.life_stack.specs.Report.{event_lines}
-use Rattle.life_stack.proofs.report.put_events.Given as goal
-
-abbrev pub invariant-loop-event : goal.invariant-loop-event
-invariant-loop-event l = l.text ≡ l.initial.text ++ event_lines (take l.event-index l.events)

@@ -1,0 +1,7 @@
+pub mod Due
+pub mod Input
+pub mod Lines
+pub mod Run
+pub mod Status
+pub mod Words
+pub mod Writing

@@ -1,0 +1,53 @@
+-- What a run is due to write, and with which status.
+use Rattle.std.specs.Prelude.{◌≡◌, ℕ, ◌+◌, List, [], length, Option, Some, None, Err, ◌⊎◌}
+use Rattle.life_script.specs.ScriptView.{ScenarioView}
+use Rattle.life_script.specs.declared.scenario.Limits.{Limits}
+use Rattle.life_script.specs.declared.error.DriveError.{DriveError}
+use Rattle.life_script.specs.Reading.{Reads, IsBadScenario, IsNotBuilt}
+use Rattle.life_script.specs.Valid.{IsValid, verdict}
+use Rattle.life_stack.specs.Stack.Drive.{report_of}
+use Rattle.life_session.specs.Report.{report_text}
+use Rattle.life_stack.specs.Program.Input.{most_bytes, IsWhole}
+use Rattle.life_stack.specs.Program.Lines.{usage_line, too_long_line, bad_scenario_line, not_built_line, refused_line}
+use Rattle.life_stack.specs.declared.program.words.Command.{Command}
+use Rattle.life_stack.specs.declared.program.words.Command.TheVariants.{Drive}
+use Rattle.life_stack.specs.declared.program.status.Status.{Status}
+use Rattle.life_stack.specs.declared.program.status.Status.TheVariants.{Done, Usage, BadScenario, Refused, TooLong}
+
+-- the bytes are a valid scenario, and the text is what is reported of it
+pub record IsReport (bytes text : List ℕ) : Type 0 where
+  pub limits : Limits
+  pub scenario : ScenarioView
+  pub reads : Reads bytes limits scenario
+  pub valid : IsValid scenario
+  pub text_is : text ≡ report_text (report_of limits scenario)
+
+-- the bytes are a scenario that is refused, and the text is the line that says why
+pub record IsRefusal (bytes text : List ℕ) : Type 0 where
+  pub limits : Limits
+  pub scenario : ScenarioView
+  pub why : DriveError
+  pub reads : Reads bytes limits scenario
+  pub refused : verdict scenario ≡ Err why
+  pub text_is : text ≡ refused_line why
+
+-- the bytes are no scenario, and the text is the line that says so
+abbrev pub IsUnread : List ℕ → List ℕ → Type 0
+IsUnread bytes text = (IsBadScenario bytes × (text ≡ bad_scenario_line)) ⊎ (IsNotBuilt bytes × (text ≡ not_built_line))
+
+-- the status and the text that are due for the bytes that a source gave to its end
+abbrev pub IsDueFor : List ℕ → Status → List ℕ → Type 0
+IsDueFor bytes Done text = IsReport bytes text
+IsDueFor bytes BadScenario text = IsUnread bytes text
+IsDueFor bytes Refused text = IsRefusal bytes text
+IsDueFor bytes _ text = ⊥
+
+-- the status and the text that are due on a command, where these bytes were taken from a source that has this left;
+-- a fault and want of memory are never due
+abbrev pub IsDue : Option Command → List ℕ → Option (List ℕ) → Status → List ℕ → Type 0
+IsDue command taken left Usage text = (command ≡ None) × (taken ≡ []) × (text ≡ usage_line)
+IsDue command taken left TooLong text = (command ≡ Some Drive) × (length taken ≡ most_bytes + 1) × (text ≡ too_long_line)
+IsDue command taken left BadScenario text = (command ≡ Some Drive) × IsWhole taken left × IsUnread taken text
+IsDue command taken left Refused text = (command ≡ Some Drive) × IsWhole taken left × IsRefusal taken text
+IsDue command taken left Done text = (command ≡ Some Drive) × IsWhole taken left × IsReport taken text
+IsDue command taken left _ text = ⊥

@@ -1,0 +1,4 @@
+pub mod Drive
+pub mod Driven
+pub mod Keeping
+pub mod StandsAt

@@ -1,0 +1,5 @@
+pub mod Decision
+pub mod Examples
+pub mod Handed
+pub mod Request
+pub mod Story

@@ -1,0 +1,281 @@
+-- The story of one request: what each of its acts answers and records, as a table over the finished list of its acts.
+use Rattle.std.specs.Prelude.{ℕ, suc, ◌+◌, ◌-◌, List, [], ◌∷◌, ◌++◌, length, slice_get, slice_index, Bool, true, false, ◌&&◌, ◌||◌, if◌then◌else◌, nat_le, nat_lt, ◌==◌, Option, Some, None, flat_map}
+use Rattle.life_core.specs.Due.{due, since}
+use Rattle.life_core.specs.declared.event.Event.{Event}
+use Rattle.life_core.specs.declared.event.Event.TheVariants as event
+use Rattle.life_core.specs.declared.event.DropKind.{DropKind}
+use Rattle.life_core.specs.declared.event.DropKind.TheVariants as drop_kind
+use Rattle.life_core.specs.declared.latency.LatencyUnit.TheVariants.{Nanos}
+use Rattle.life_core.specs.declared.body.BodyError.TheVariants.{Elapsed, Inner}
+use Rattle.http_header.specs.FieldValue.{FieldValue}
+use Rattle.life_stack.specs.Table.Decision.{Decision, TooLarge, Forbidden, Panicked, Served, bare_reply, decision, forbidden_reply, panic_reply, too_large_reply}
+use Rattle.life_stack.specs.Table.Handed.{handed_bytes, service_events}
+use Rattle.life_stack.specs.Table.Request.{shown_headers}
+use Rattle.life_stack.specs.Table.Request.{Numbered, ident, identified}
+use Rattle.life_script.specs.ToldView.{ToldView, TurnView}
+use Rattle.life_script.specs.Views.{ReplyView}
+use Rattle.life_script.specs.declared.answer.Answer.{Answer}
+use Rattle.life_script.specs.declared.answer.Answer.TheVariants as ans
+use Rattle.life_script.specs.declared.answer.Seen.TheVariants as seen
+use Rattle.life_script.specs.declared.scenario.Act.TheVariants as act
+use Rattle.life_script.specs.declared.scenario.BodyItem.{BodyItem}
+use Rattle.life_script.specs.declared.scenario.BodyItem.TheVariants as body_item
+use Rattle.life_script.specs.declared.scenario.Limits.{Limits}
+use Rattle.life_script.specs.declared.scenario.PollItem.{PollItem}
+use Rattle.life_script.specs.declared.scenario.Then.{Then}
+use Rattle.life_script.specs.declared.scenario.Then.TheVariants as then_
+use Rattle.life_session.specs.Acts.{Own}
+use Rattle.life_session.specs.Table.{Table, story_by}
+use Rattle.life_stack.specs.Table.Request.{called_at, dropped_at, polls}
+
+-- THE HEAD: the first poll that answers otherwise than Pending, and what it gives.
+
+-- the least index of a poll at which the timer is due
+abbrev pub next : Option ℕ → Option ℕ
+next None = None
+next (Some k) = Some (suc k)
+
+abbrev pub first_due : ℕ → ℕ → List ℕ → Option ℕ
+first_due start length [] = None
+first_due start length (p ∷ ps) = if due start length p then Some 0 else next (first_due start length ps)
+
+-- what a poll that answers gives: a response by a reply, or a service error
+pub data Outcome : Type 0 where
+  Replied : ReplyView → Outcome
+  Failed : List ℕ → Outcome
+
+-- the least index of a poll item that panics, responds or fails, with what it gives
+abbrev pub later : Option (ℕ × Outcome) → Option (ℕ × Outcome)
+later None = None
+later (Some (r, o)) = Some (suc r, o)
+
+-- the reply with the id where it has none
+abbrev pub replied : FieldValue → ReplyView → ReplyView
+replied id reply = record reply { headers = identified id reply.headers }
+
+abbrev pub outcome_in : FieldValue → Then → Option Outcome
+outcome_in id then_.Pending = None
+outcome_in id (then_.Panic text) = Some (Replied (replied id panic_reply))
+outcome_in id (then_.Fail error) = Some (Failed error)
+outcome_in id (then_.Respond reply) = Some (Replied (replied id reply))
+
+abbrev pub here_or_later : Option Outcome → Option (ℕ × Outcome) → Option (ℕ × Outcome)
+here_or_later (Some o) rest = Some (0, o)
+here_or_later None rest = later rest
+
+abbrev pub first_outcome : FieldValue → List PollItem → Option (ℕ × Outcome)
+first_outcome id [] = None
+first_outcome id (item ∷ items) = here_or_later (outcome_in id item.then) (first_outcome id items)
+
+-- the least index of a poll at which the service answers, were it asked at each: the first where the decision is not to serve
+abbrev pub decided_outcome : Decision → Numbered → Option (ℕ × Outcome)
+decided_outcome TooLarge script = Some (0, Replied (replied (ident script) too_large_reply))
+decided_outcome Forbidden script = Some (0, Replied (replied (ident script) forbidden_reply))
+decided_outcome (Panicked text) script = Some (0, Replied (replied (ident script) panic_reply))
+decided_outcome Served script = first_outcome (ident script) script.script.polls
+
+abbrev pub ready_outcome : Limits → Numbered → Option (ℕ × Outcome)
+ready_outcome limits script = decided_outcome (decision limits script) script
+
+-- the lesser of the two; the due case wins a tie
+abbrev pub earlier : Option ℕ → Option (ℕ × Outcome) → Outcome → Option (ℕ × Outcome)
+earlier None ready late = ready
+earlier (Some u) None late = Some (u, late)
+earlier (Some u) (Some (r, o)) late = if nat_le u r then Some (u, late) else Some (r, o)
+
+-- it counts only where there is such a poll
+abbrev pub counted : ℕ → Option (ℕ × Outcome) → Option (ℕ × Outcome)
+counted n None = None
+counted n (Some (k, o)) = if nat_lt k n then Some (k, o) else None
+
+-- what a due poll answers: the timeout's status alone
+abbrev pub due_reply : Limits → ReplyView
+due_reply limits = bare_reply limits.timeout_status
+
+abbrev pub head : Limits → Numbered → ℕ → List ℕ → Option (ℕ × Outcome)
+head limits script t0 ps = counted (length ps) (earlier (first_due t0 limits.timeout ps) (ready_outcome limits script) (Replied (due_reply limits)))
+
+-- THE BODY of a reply.
+
+-- whether it tells its end after m items
+abbrev pub tells_after : ReplyView → ℕ → Bool
+tells_after reply m = reply.tells && nat_le (length reply.body) m
+
+-- what item k answers, or none
+abbrev pub item_answer : ReplyView → ℕ → Option BodyItem → Answer
+item_answer reply k None = ans.End
+item_answer reply k (Some body_item.Pending) = ans.Pending
+item_answer reply k (Some (body_item.Trailers trailers)) = ans.Frame (seen.Trailers (shown_headers trailers)) (tells_after reply (suc k))
+item_answer reply k (Some (body_item.Fault fault)) = ans.Fault (Inner fault)
+item_answer reply k (Some (body_item.Chunk bytes)) = ans.Frame (seen.Chunk bytes) (tells_after reply (suc k))
+
+-- the k-th poll of the body, at time q; the response was given at ph
+abbrev pub body_answer : Limits → ReplyView → ℕ → ℕ → ℕ → Answer
+body_answer limits reply ph q k = if due ph limits.body_deadline q then ans.Fault Elapsed else item_answer reply k (slice_get reply.body k)
+
+-- THE ANSWER of each act.
+
+-- poll k, where there is no head, or by its index
+-- the answer at the head
+abbrev pub head_answer : Outcome → Answer
+head_answer (Replied reply) = ans.Response reply.status (shown_headers reply.headers) (tells_after reply 0)
+head_answer (Failed error) = ans.ServiceError error
+
+-- the answer of a poll at q, the k-th after the head, which was at ph; after a service error nothing is live
+abbrev pub later_answer : Limits → Outcome → ℕ → ℕ → ℕ → Answer
+later_answer limits (Replied reply) ph q k = body_answer limits reply ph q k
+later_answer limits (Failed error) ph q k = ans.Idle
+
+abbrev pub by_head : Limits → List ℕ → ℕ → Option (ℕ × Outcome) → Answer
+by_head limits ps k None = ans.Pending
+by_head limits ps k (Some (h, o)) =
+    if nat_lt k h then ans.Pending
+    else (if k == h then head_answer o
+    else later_answer limits o (slice_index ps h) (slice_index ps k) (k - suc h))
+
+abbrev pub poll_answer : Limits → Numbered → ℕ → List ℕ → ℕ → Answer
+poll_answer limits script t0 ps k = by_head limits ps k (head limits script t0 ps)
+
+-- by the time of the first Call before the act, and of the first Drop after that
+abbrev pub on_call : Option ℕ → Answer
+on_call None = ans.Called
+on_call (Some t0) = ans.Idle
+
+abbrev pub on_poll : Limits → Numbered → Option ℕ → Option ℕ → List ℕ → ℕ → Answer
+on_poll limits script None d ps k = ans.Idle
+on_poll limits script (Some t0) (Some d) ps k = ans.Idle
+on_poll limits script (Some t0) None ps k = poll_answer limits script t0 ps k
+
+-- what a Drop does, by the head so far
+abbrev pub drop_answer : Option (ℕ × Outcome) → Answer
+drop_answer None = ans.Dropped
+drop_answer (Some (h, Replied reply)) = ans.Dropped
+drop_answer (Some (h, Failed error)) = ans.Idle
+
+abbrev pub on_drop : Limits → Numbered → Option ℕ → Option ℕ → List ℕ → Answer
+on_drop limits script None d ps = ans.Idle
+on_drop limits script (Some t0) (Some d) ps = ans.Idle
+on_drop limits script (Some t0) None ps = drop_answer (head limits script t0 ps)
+
+-- the answer to an act depends on the acts up to it alone
+abbrev pub answer : Limits → Numbered → List Own → Own → Answer
+answer limits script before (t, act.Call) = on_call (called_at before)
+answer limits script before (t, act.Poll) = on_poll limits script (called_at before) (dropped_at before) (polls before ++ t ∷ []) (length (polls before))
+answer limits script before (t, act.Drop) = on_drop limits script (called_at before) (dropped_at before) (polls before)
+
+abbrev pub answers_after : Limits → Numbered → List Own → List Own → List Answer
+answers_after limits script before [] = []
+answers_after limits script before (x ∷ acts) = answer limits script before x ∷ answers_after limits script (before ++ x ∷ []) acts
+
+abbrev pub answers : Limits → Numbered → List Own → List Answer
+answers limits script acts = answers_after limits script [] acts
+
+-- EARLY DROPS.
+
+-- the ending answers
+abbrev pub is_ending : Answer → Bool
+is_ending ans.Called = false
+is_ending ans.Idle = false
+is_ending ans.Pending = false
+is_ending (ans.Response status headers ended) = ended
+is_ending (ans.ServiceError error) = true
+is_ending (ans.Frame frame ended) = ended
+is_ending ans.End = true
+is_ending (ans.Fault fault) = true
+is_ending ans.Dropped = false
+
+abbrev pub any_ending : List Answer → Bool
+any_ending [] = false
+any_ending (a ∷ rest) = is_ending a || any_ending rest
+
+-- what is dropped: a body where a response was answered, with its status; else the future
+abbrev pub kind_after : DropKind → Answer → DropKind
+kind_after what ans.Called = what
+kind_after what ans.Idle = what
+kind_after what ans.Pending = what
+kind_after what (ans.Response status headers ended) = drop_kind.Body status
+kind_after what (ans.ServiceError error) = what
+kind_after what (ans.Frame frame ended) = what
+kind_after what ans.End = what
+kind_after what (ans.Fault fault) = what
+kind_after what ans.Dropped = what
+
+abbrev pub kind_of : DropKind → List Answer → DropKind
+kind_of what [] = what
+kind_of what (a ∷ rest) = kind_of (kind_after what a) rest
+
+-- none where the request was never called or an ending answer came; else one, d being the time of the drop
+abbrev pub drops_at : Option ℕ → List Answer → ℕ → List Event
+drops_at None given d = []
+drops_at (Some t0) given d = if any_ending given then [] else event.Dropped (kind_of drop_kind.Future given) (record { unit = Nanos; nanos = since t0 d }) ∷ []
+
+abbrev pub drops : Limits → Numbered → List Own → ℕ → List Event
+drops limits script acts d = drops_at (called_at acts) (answers limits script acts) d
+
+-- THE STORY.
+
+-- poll k at time t reaches the service where its timer is not due
+abbrev pub undue_events : Limits → Numbered → ℕ → ℕ → ℕ → List Event
+undue_events limits script t0 k t = if due t0 limits.timeout t then [] else service_events limits script k
+
+-- the service is polled up to the head
+abbrev pub poll_events : Limits → Numbered → ℕ → ℕ → ℕ → Option (ℕ × Outcome) → List Event
+poll_events limits script t0 k t None = undue_events limits script t0 k t
+poll_events limits script t0 k t (Some (h, o)) = if nat_le k h then undue_events limits script t0 k t else []
+
+abbrev pub on_poll_events : Limits → Numbered → Option ℕ → Option ℕ → List ℕ → ℕ → ℕ → List Event
+on_poll_events limits script None d ps k t = []
+on_poll_events limits script (Some t0) (Some d) ps k t = []
+on_poll_events limits script (Some t0) None ps k t = poll_events limits script t0 k t (head limits script t0 ps)
+
+-- the early drop stands in the turn of the Drop
+abbrev pub drop_events : Answer → List Event → List Event
+drop_events ans.Called es = []
+drop_events ans.Idle es = []
+drop_events ans.Pending es = []
+drop_events (ans.Response status headers ended) es = []
+drop_events (ans.ServiceError error) es = []
+drop_events (ans.Frame frame ended) es = []
+drop_events ans.End es = []
+drop_events (ans.Fault fault) es = []
+drop_events ans.Dropped es = es
+
+-- what is recorded in the turn of an act
+abbrev pub events : Limits → Numbered → List Own → Own → List Event
+events limits script before (t, act.Call) = []
+events limits script before (t, act.Poll) = on_poll_events limits script (called_at before) (dropped_at before) (polls before ++ t ∷ []) (length (polls before)) t
+events limits script before (t, act.Drop) = drop_events (answer limits script before (t, act.Drop)) (drops limits script (before ++ (t, act.Drop) ∷ []) t)
+
+-- at the end where no Drop came
+abbrev pub unless_dropped : Option ℕ → List Event → List Event
+unless_dropped None es = es
+unless_dropped (Some d) es = []
+
+abbrev pub at_end : Limits → Numbered → List Own → ℕ → List Event
+at_end limits script acts end = unless_dropped (dropped_at acts) (drops limits script acts end)
+
+-- THE STORY: the turns of all acts, and what is recorded at the end.
+
+abbrev pub story_table : Limits → Numbered → Table
+story_table limits script = record { answer = answer limits script; events = events limits script; at_end = at_end limits script }
+
+abbrev pub story : Limits → Numbered → List Own → ℕ → ToldView
+story limits script acts end = story_by (story_table limits script) acts end
+
+-- the early-drop records among what was told, in order
+abbrev pub dropped_in : List Event → List Event
+dropped_in [] = []
+dropped_in (event.Panic level text ∷ es) = dropped_in es
+dropped_in (event.Handed got ∷ es) = dropped_in es
+dropped_in (event.Dropped what latency ∷ es) = event.Dropped what latency ∷ dropped_in es
+
+abbrev pub drop_records : ToldView → List Event
+drop_records told = flat_map (λ (made : TurnView). dropped_in made.events) told.turns ++ dropped_in told.at_end
+
+-- how many bytes of its request's body the service was handed
+abbrev pub turns_bytes : List TurnView → ℕ
+turns_bytes [] = 0
+turns_bytes (made ∷ turns) = handed_bytes made.events + turns_bytes turns
+
+abbrev pub body_bytes : ToldView → ℕ
+body_bytes told = turns_bytes told.turns + handed_bytes told.at_end

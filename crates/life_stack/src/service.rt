@@ -1,0 +1,115 @@
+//! A service that answers by a script.
+ghost use Rattle.std.specs.Prelude.{◌≡◌, ⊤, IfOk, drop};
+ghost use Rattle.std.specs.Option.{option_copied};
+ghost use Rattle.life_stack.specs.Service.Script.{ScriptCalls, ScriptReadies, panic_for, panic_of, polls_for, script_for};
+
+mod asking;
+pub mod body;
+pub mod ext;
+pub mod future;
+
+use crate::service::body::ScriptBody;
+use crate::service::ext::Ext;
+use crate::service::future::ScriptFuture;
+use life_core::{
+    Cx, Fault, Future, Got, Limited, List, PanicText, Poll, Recorder, Request, Response, Service,
+    Text, Twin, give_up_request,
+};
+use life_head::request_id::Number;
+use life_script::{CallItem, PollItems, Script, Scripts};
+use std::alloc::Global;
+use std::rc::Rc;
+
+/// Serves each request by the script of the number in its extension, and one without such a script as
+/// by a script without items.
+#[derive(Drop)]
+pub struct ScriptService {
+    scripts: Rc<Scripts>,
+}
+
+impl ScriptService {
+    ghost use Rattle.life_stack.specs.Service.Script.{IsServiceOf};
+
+    /// The service of these scripts.
+    pub fn new(scripts: Rc<Scripts>) -> ScriptService
+        ensures { IsServiceOf scripts.value.items result }
+    {
+        ScriptService { scripts }
+    }
+
+    /// The script of a number, or none.
+    fn find(&self, number: Option<Number>) -> Option<&Script>
+        ensures { option_copied result ≡ script_for self.now.scripts.value.items number }
+    {
+        match number {
+            Some(number) => self.scripts.get(number.0),
+            None => None,
+        }
+    }
+}
+
+/// The poll items of a script. The one error is want of memory.
+fn polls_of(alloc: Global, script: Option<&Script>) -> Got<PollItems>
+    ensures { IfOk result (λ polls. polls.items ≡ polls_for (option_copied script.entry)) }
+{
+    match script {
+        Some(script) => script.polls.twin_items(alloc),
+        None => Ok(List::new(alloc)),
+    }
+}
+
+/// The panic of a script's call, if it has one. The one error is want of memory.
+fn panic_of(alloc: Global, script: Option<&Script>) -> Got<Option<PanicText>>
+    ensures { IfOk result (λ panic. panic ≡ panic_for (option_copied script.entry)) }
+{
+    let Some(script) = script else {
+        return Ok(None);
+    };
+    match &script.call {
+        CallItem::Serve => Ok(None),
+        CallItem::Panic(text) => match text.twin(alloc) {
+            Ok(text) => Ok(Some(text)),
+            Err(no_memory) => Err(no_memory),
+        },
+    }
+}
+
+impl<L: Recorder> Service<Request<Limited<ScriptBody>, Ext>, L> for ScriptService {
+    type Response = Response<ScriptBody, Ext>;
+
+    type Error = Fault<Text>;
+
+    type Future = ScriptFuture;
+
+    ghost may = { λ _. ⊤ };
+
+    ghost readies = { ScriptReadies };
+
+    ghost calls = { ScriptCalls };
+
+    fn poll_ready(&mut self, _cx: &mut Cx<'_, L>) -> Poll<Result<(), Fault<Text>>> {
+        Poll::Ready(Ok(()))
+    }
+
+    fn call(
+        &mut self,
+        req: Request<Limited<ScriptBody>, Ext>,
+        cx: &mut Cx<'_, L>,
+    ) -> Got<ScriptFuture> {
+        let script = self.find(req.ext().number);
+        let Ok(polls) = polls_of(cx.alloc, script) else {
+            return Err(give_up_request(req, cx));
+        };
+        let Ok(panic) = panic_of(cx.alloc, script) else {
+            return Err(give_up_request(req, cx));
+        };
+        let (head, body) = req.into_parts();
+        drop(head);
+        Ok(ScriptFuture {
+            polls,
+            next: 0,
+            body,
+            panic,
+        })
+    }
+}

@@ -1,0 +1,98 @@
+//! The future of the scripted service.
+ghost use Rattle.std.specs.Prelude.{⊤, IfOk};
+ghost use Rattle.life_stack.specs.Service.Script.{Answers, ScriptPolls, ScriptLeaves, IsReply};
+
+use crate::service::asking::ask_times;
+use crate::service::body::{ScriptBody, take_next};
+use crate::service::ext::Ext;
+use life_core::{
+    Cx, Fault, Future, Got, Limited, PanicText, Poll, Recorder, Response, ResponseHead, Spend,
+    Text, Twin,
+};
+use life_script::{PollItems, Reply, Then};
+use std::alloc::Global;
+
+/// Answers the items of a list, one a poll, each after it asked for frames of the request's body. It holds
+/// that body until it is abandoned.
+pub struct ScriptFuture {
+    pub(crate) polls: PollItems,
+    pub(crate) next: u64,
+    pub(crate) body: Limited<ScriptBody>,
+    /// The panic of the call, until the first poll tells it.
+    pub(crate) panic: Option<PanicText>,
+}
+
+impl<L: Recorder> Spend<L> for ScriptFuture {
+    ghost may = { λ _. ⊤ };
+
+    ghost leaves = { ScriptLeaves };
+
+    fn abandon(self, cx: &mut Cx<'_, L>) -> Got<()> {
+        let ScriptFuture {
+            polls: _,
+            next: _,
+            body,
+            panic: _,
+        } = self;
+        body.abandon(cx)
+    }
+}
+
+impl<L: Recorder> Future<L> for ScriptFuture {
+    type Output = Result<Response<ScriptBody, Ext>, Fault<Text>>;
+
+    ghost live = { λ _. ⊤ };
+
+    ghost polls = { ScriptPolls };
+
+    fn poll(
+        &mut self,
+        cx: &mut Cx<'_, L>,
+    ) -> Got<Poll<Result<Response<ScriptBody, Ext>, Fault<Text>>>> {
+        if let Some(text) = self.panic.take() {
+            return Ok(Poll::Ready(Err(Fault::Panicked(text))));
+        }
+        let Some(item) = take_next(&self.polls, &mut self.next) else {
+            return Ok(Poll::Pending);
+        };
+        match ask_times(&mut self.body, item.asks, cx) {
+            Ok(()) => answer(cx.alloc, &item.then),
+            Err(no_memory) => Err(no_memory),
+        }
+    }
+}
+
+/// The answer to what an item says. The one error is want of memory.
+fn answer(alloc: Global, then: &Then) -> Got<Poll<Result<Response<ScriptBody, Ext>, Fault<Text>>>>
+    ensures { IfOk result (Answers then.now) }
+{
+    match then {
+        Then::Pending => Ok(Poll::Pending),
+        Then::Panic(text) => match text.twin(alloc) {
+            Ok(text) => Ok(Poll::Ready(Err(Fault::Panicked(text)))),
+            Err(no_memory) => Err(no_memory),
+        },
+        Then::Fail(error) => match error.twin(alloc) {
+            Ok(error) => Ok(Poll::Ready(Err(Fault::Err(error)))),
+            Err(no_memory) => Err(no_memory),
+        },
+        Then::Respond(reply) => match respond(alloc, reply) {
+            Ok(response) => Ok(Poll::Ready(Ok(response))),
+            Err(no_memory) => Err(no_memory),
+        },
+    }
+}
+
+/// The response of a script. The one error is want of memory.
+fn respond(alloc: Global, reply: &Reply) -> Got<Response<ScriptBody, Ext>>
+    ensures { IfOk result (IsReply reply.now) }
+{
+    let headers = reply.headers.to_map(alloc)?;
+    let reply = reply.twin(alloc)?;
+    let mut head = ResponseHead::bare(alloc, reply.status);
+    head.parts.headers = headers;
+    Ok(Response {
+        head,
+        body: ScriptBody::of_reply(reply),
+    })
+}

@@ -1,0 +1,44 @@
+//! Drives the steps of a scenario, one after another.
+ghost use Rattle.std.specs.Prelude.{◌≡◌, ◌≤◌, ℕ, slice_get, Some, Err, IfOk, IfErr, IsOk};
+ghost use Rattle.life_script.specs.ScriptView.{ScriptView};
+ghost use Rattle.life_script.specs.ToldView.{ToldView};
+ghost use Rattle.life_script.specs.Valid.{IsValid, verdict};
+ghost use Rattle.life_script.specs.declared.error.DriveError.TheVariants.{NoMemory as OutOfMemory};
+ghost use Rattle.life_session.specs.Session.{IsRefused};
+ghost use Rattle.life_stack.specs.Stack.Drive.{report_of};
+ghost use Rattle.life_stack.specs.Table.Handed.{room};
+ghost use Rattle.life_stack.specs.Table.Request.{numbered};
+ghost use Rattle.life_session.specs.Acts.{own};
+ghost use Rattle.life_stack.specs.Table.Request.{drop_time, dropped_at};
+ghost use Rattle.life_stack.specs.Table.Story.{body_bytes, drop_records, drops, story};
+
+use crate::stack::keeping::Session;
+use life_script::{DriveError, Limits, Scenario};
+use life_session::Report;
+use std::alloc::Global;
+
+/// Drives the requests of a scenario through the stack that its limits give, step by step, and tells what
+/// each step answered and recorded. Each request is told as if it were alone. A scenario that is not valid is
+/// refused before any step is made; the one other error is want of memory. After an error nothing is live.
+pub fn drive(alloc: Global, limits: &Limits, scenario: &Scenario) -> Result<Report, DriveError>
+    ensures told { IfOk result (λ r. r ≡ report_of limits.now scenario.now) }
+    ensures each { IfOk result (λ r. (i : ℕ) (script : ScriptView) → slice_get scenario.now.requests i ≡ Some script
+        → slice_get r.told i ≡ Some (story limits.now (numbered i script) (own r.steps i) r.end)) }
+    ensures once { IfOk result (λ r. (i : ℕ) (script : ScriptView) (t : ToldView) → slice_get scenario.now.requests i ≡ Some script → slice_get r.told i ≡ Some t
+        → drop_records t ≡ drops limits.now (numbered i script) (own r.steps i) (drop_time (dropped_at (own r.steps i)) r.end)) }
+    ensures bounded { IfOk result (λ r. (i : ℕ) (script : ScriptView) (t : ToldView) → slice_get scenario.now.requests i ≡ Some script → slice_get r.told i ≡ Some t
+        → body_bytes t ≤ room limits.now script) }
+    ensures valid { IsOk result → IsValid scenario.now }
+    ensures refused { IfErr result (λ e. IsRefused scenario.now e) }
+    ensures exact { IfErr (verdict scenario.now) (λ e. result ≡ Err e) }
+    ensures complete { IsValid scenario.now → IfErr result (λ e. e ≡ OutOfMemory) }
+{
+    let mut session = Session::begin(alloc, limits, scenario)?;
+    while !session.done() {
+        session = match session.step() {
+            Ok(session) => session,
+            Err(_) => return Err(DriveError::NoMemory),
+        };
+    }
+    Ok(session.finish())
+}
