@@ -6,16 +6,18 @@ mod asserting;
 #[cfg(test)]
 mod checks;
 #[cfg(test)]
+mod equal_scripts;
+#[cfg(test)]
 mod fixtures;
+#[cfg(test)]
+mod forms;
 #[cfg(test)]
 mod reading;
 #[cfg(test)]
-mod runs;
+mod reports;
 #[cfg(test)]
-mod scripts;
+mod runs;
 #[cfg(test)]
 mod sessions;
 #[cfg(test)]
 mod stack;
-#[cfg(test)]
-mod texts;

@@ -1,11 +1,11 @@
 //! Whole runs between ends that fail, runs on what is no scenario, and a report without a source.
-use crate::asserting::{number_is, request_is, text_is};
-use life_core::{Calls, Got, MemorySink, MemorySource, Octets};
-use life_script::read_scenario;
+use crate::asserting::{number_is, text_is};
+use crate::fixtures::{octets, read};
+use crate::reports::request_is;
+use life_core::{Calls, MemorySink, MemorySource, Octets};
 use life_stack::{Report, Status, drive, report_text, run};
-use std::alloc::{AllocGlobal, Global};
+use std::alloc::AllocGlobal;
 use std::process::Abort;
-use std::test::Fail;
 
 /// A request that is answered with status 200 and a body of one piece, which is read to its end.
 const HI: &str =
@@ -31,21 +31,27 @@ fn ends_of<'a>(given: u64, reads: &'a [u64], taken: u64, writes: &'a [u64]) -> E
 }
 
 /// The numbers of calls.
-fn calls(alloc: Global, numbers: &[u64]) -> Got<Calls> {
-    let mut calls = Calls::new(alloc);
+fn calls(rt: &(impl Abort + AllocGlobal), numbers: &[u64]) -> Calls {
+    let mut calls = Calls::new(rt.alloc());
     for number in numbers {
-        calls.push(*number)?;
+        calls.push(*number).expect(rt, "memory");
     }
-    Ok(calls)
+    calls
 }
 
-/// Words of a command line.
-fn strings(alloc: Global, words: &[&str]) -> Got<Vec<String>> {
-    let mut strings = Vec::new(alloc);
+/// Puts a word of a command line.
+fn put(rt: &(impl Abort + AllocGlobal), words: &mut Vec<String>, word: &str) {
+    let word = String::from_str(rt.alloc(), word).expect(rt, "memory");
+    words.push(word).expect(rt, "memory");
+}
+
+/// The words of a command line.
+fn words_of(rt: &(impl Abort + AllocGlobal), words: &[&str]) -> Vec<String> {
+    let mut strings = Vec::new(rt.alloc());
     for word in words {
-        strings.push(String::from_str(alloc, word)?)?;
+        put(rt, &mut strings, word);
     }
-    Ok(strings)
+    strings
 }
 
 /// Asserts how a run ended.
@@ -53,26 +59,7 @@ fn status_is(rt: &impl Abort, name: &str, status: Status, want: Status) {
     assert_eq!(*rt; status, want, "{name}");
 }
 
-/// Asserts how a run from this source to a sink of these ends ends, and what the sink holds then.
-fn runs_into(
-    rt: &(impl Abort + AllocGlobal),
-    name: &str,
-    words: &[&str],
-    mut source: MemorySource,
-    ends: Ends<'_>,
-    want: (Status, &str),
-) -> Got<()> {
-    let alloc = rt.alloc();
-    let taken = ends.taken.max(1);
-    let words = strings(alloc, words)?;
-    let mut sink = MemorySink::new(alloc, 1000, taken, calls(alloc, ends.writes)?)?;
-    let status = run(alloc, words.as_slice(), &mut source, &mut sink);
-    status_is(rt, name, status, want.0);
-    text_is(rt, sink.held(), want.1);
-    Ok(())
-}
-
-/// Asserts how a run on this input between these ends ends, and what the sink holds then.
+/// Asserts how a run between these ends ends, and what the sink holds then.
 fn ends_with(
     rt: &(impl Abort + AllocGlobal),
     name: &str,
@@ -80,26 +67,19 @@ fn ends_with(
     input: Octets,
     ends: Ends<'_>,
     want: (Status, &str),
-) -> Got<()> {
-    let fails = calls(rt.alloc(), ends.reads)?;
-    let source = MemorySource::new(input, ends.given.max(1), fails);
-    runs_into(rt, name, words, source, ends, want)
-}
-
-/// Asserts how a run on a text between these ends ends, and what the sink holds then.
-fn text_ends_with(
-    rt: &(impl Abort + AllocGlobal),
-    name: &str,
-    text: &str,
-    ends: Ends<'_>,
-    want: (Status, &str),
-) -> Got<()> {
-    let input = Octets::copy(rt.alloc(), text.as_bytes())?;
-    ends_with(rt, name, &["drive"], input, ends, want)
+) {
+    let words = words_of(rt, words);
+    let mut source = MemorySource::new(input, ends.given.max(1), calls(rt, ends.reads));
+    let taken = ends.taken.max(1);
+    let sink = MemorySink::new(rt.alloc(), 1000, taken, calls(rt, ends.writes));
+    let mut sink = sink.expect(rt, "memory");
+    let status = run(rt.alloc(), words.as_slice(), &mut source, &mut sink);
+    status_is(rt, name, status, want.0);
+    text_is(rt, sink.held(), want.1);
 }
 
 #[test]
-fn faults_of_a_source_and_of_a_sink(rt: HostRuntime) -> Result<(), Fail> {
+fn faults_of_a_source_and_of_a_sink(rt: HostRuntime) {
     let fault = (Status::SourceFault, "");
     let short = (Status::SinkFault, "step 0 at 0 requ");
     let rows = [
@@ -117,26 +97,25 @@ fn faults_of_a_source_and_of_a_sink(rt: HostRuntime) -> Result<(), Fail> {
         ),
     ];
     for (name, ends, want) in rows {
-        text_ends_with(&rt, name, HI, ends, want)?;
+        ends_with(
+            &rt,
+            name,
+            &["drive"],
+            octets(&rt, HI.as_bytes()),
+            ends,
+            want,
+        );
     }
-    Ok(())
 }
 
-/// Asserts how a run on so many spaces between these ends ends, and what the sink holds then.
-fn spaces_end_with(
-    rt: &(impl Abort + AllocGlobal),
-    name: &str,
-    words: &[&str],
-    spaces: usize,
-    ends: Ends<'_>,
-    want: (Status, &str),
-) -> Got<()> {
-    let input = Octets::from_vec(vec![in rt.alloc(); b' '; spaces]?);
-    ends_with(rt, name, words, input, ends, want)
+/// So many spaces.
+fn spaces(rt: &(impl Abort + AllocGlobal), count: usize) -> Octets {
+    let spaces = vec![in rt.alloc(); b' '; count];
+    Octets::from_vec(spaces.expect(rt, "memory"))
 }
 
 #[test]
-fn answers_before_anything_is_read_as_a_scenario(rt: HostRuntime) -> Result<(), Fail> {
+fn answers_before_anything_is_read_as_a_scenario(rt: HostRuntime) {
     let usage = (Status::Usage, "usage: drive\n");
     let cut = (Status::SinkFault, "usage: drive");
     let unread = (Status::SourceFault, "");
@@ -152,46 +131,38 @@ fn answers_before_anything_is_read_as_a_scenario(rt: HostRuntime) -> Result<(), 
         ("too long", &["drive"], over, &[], &[], long),
         ("unwritten", &["drive"], over, &[], &[0], unwritten),
     ];
-    for (name, words, spaces, reads, writes, want) in rows {
+    for (name, words, count, reads, writes, want) in rows {
         let ends = ends_of(65536, reads, 12, writes);
-        spaces_end_with(&rt, name, words, spaces, ends, want)?;
+        ends_with(&rt, name, words, spaces(&rt, count), ends, want);
     }
-    Ok(())
 }
 
 /// The report of a scenario.
-fn driven(alloc: Global, text: &str) -> Result<Report, Fail> {
-    let (limits, scenario) = read_scenario(alloc, text.as_bytes())?;
-    Ok(drive(alloc, &limits, &scenario)?)
+fn driven(rt: &(impl Abort + AllocGlobal), text: &str) -> Report {
+    let (limits, scenario) = read(rt, text);
+    drive(rt.alloc(), &limits, &scenario).expect(rt, "a valid scenario")
 }
 
 /// Asserts the text of a report.
-fn report_shows(rt: &impl Abort, alloc: Global, report: &Report, want: &str) -> Got<()> {
-    let text = report_text(alloc, report)?;
+fn report_shows(rt: &(impl Abort + AllocGlobal), report: &Report, want: &str) {
+    let text = report_text(rt.alloc(), report).expect(rt, "memory");
     text_is(rt, text.as_slice(), want);
-    Ok(())
 }
 
-/// Asserts that a report tells of one request, whose body was read to its end.
-fn tells_of_hi(rt: &impl Abort, alloc: Global, report: &Report) -> Got<()> {
-    number_is(rt, report.end(), 5);
-    number_is(rt, report.steps().len(), 4);
-    number_is(rt, report.requests(), 1);
+#[test]
+fn drives_without_a_source(rt: HostRuntime) {
+    let report = driven(&rt, HI);
+    number_is(&rt, report.end(), 5);
+    number_is(&rt, report.steps().len(), 4);
+    number_is(&rt, report.requests(), 1);
     let wants = [
         "called",
         "response 200 open {x-request-id: [\"0\"]}",
         "data \"hi\" ended",
         "dropped",
     ];
-    request_is(rt, alloc, report, 0, &wants)
-}
-
-#[test]
-fn drives_without_a_source(rt: HostRuntime) -> Result<(), Fail> {
-    let report = driven(rt.alloc(), HI)?;
-    tells_of_hi(&rt, rt.alloc(), &report)?;
+    request_is(&rt, &report, 0, &wants);
     let text =
         "step 0 at 0 request 0 call: called\nstep 1 at 3 request 0 poll: response 200 open {x-request-id: [\"0\"]}\nstep 2 at 4 request 0 poll: data \"hi\" ended\nstep 3 at 5 request 0 drop: dropped\ntotal: 1 requests, 4 steps, end 5\n";
-    report_shows(&rt, rt.alloc(), &report, text)?;
-    Ok(())
+    report_shows(&rt, &report, text);
 }

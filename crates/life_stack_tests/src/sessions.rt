@@ -1,17 +1,19 @@
 //! A session by hand: two requests, step by step.
-use crate::asserting::request_is;
-use crate::fixtures::{limits, ready_requests, steps};
-use life_core::Got;
-use life_script::{Act, Scenario};
+use crate::fixtures::read;
+use crate::reports::request_is;
+use life_script::{Limits, Scenario};
 use life_stack::{Report, Session};
-use std::alloc::Global;
+use std::alloc::AllocGlobal;
 use std::process::Abort;
-use std::test::Fail;
+
+/// Two requests that are answered with status 200 and no body, whose steps interleave.
+const TWO: &str =
+    r#"{"version":1,"limits":{"timeout":10,"timeout_status":408,"body_deadline":20,"byte_limit":5,"gate_name":"x-gate","gate_value":"open"},"requests":[{"headers":[["x-gate","open"]],"body":[],"call":"serve","polls":[{"asks":0,"then":{"respond":{"status":200,"headers":[],"body":[],"tells":true}}}]},{"headers":[["x-gate","open"]],"body":[],"call":"serve","polls":[{"asks":0,"then":{"respond":{"status":200,"headers":[],"body":[],"tells":true}}}]}],"steps":[[0,0,"call"],[1,1,"call"],[2,1,"poll"],[3,0,"poll"],[4,1,"drop"]],"end":5}"#;
 
 /// Runs the next step, which there is.
-fn stepped(rt: &impl Abort, session: Session) -> Result<Session, Fail> {
+fn stepped(rt: &impl Abort, session: Session) -> Session {
     assert!(*rt; !session.done());
-    Ok(session.step()?)
+    session.step().expect(rt, "memory")
 }
 
 /// The report, where all steps were run.
@@ -21,43 +23,24 @@ fn finished(rt: &impl Abort, session: Session) -> Report {
 }
 
 /// The report of a scenario that is run step by step.
-fn report_of(rt: &impl Abort, alloc: Global, scenario: &Scenario) -> Result<Report, Fail> {
-    let limits = limits(alloc)?;
-    let mut session = Session::begin(alloc, &limits, scenario)?;
+fn report_of(rt: &(impl Abort + AllocGlobal), limits: &Limits, scenario: &Scenario) -> Report {
+    let mut session = Session::begin(rt.alloc(), limits, scenario).expect(rt, "a valid scenario");
     for _ in 0..scenario.steps.len() {
-        session = stepped(rt, session)?;
+        session = stepped(rt, session);
     }
-    Ok(finished(rt, session))
+    finished(rt, session)
 }
 
-/// Asserts what the steps of two requests that are ready were answered.
-fn tells_of_both(rt: &impl Abort, alloc: Global, report: &Report) -> Got<()> {
+#[test]
+fn interleaved_requests(rt: HostRuntime) {
+    let (limits, scenario) = read(&rt, TWO);
+    let report = report_of(&rt, &limits, &scenario);
     let first = ["called", "response 200 ended {x-request-id: [\"0\"]}"];
+    request_is(&rt, &report, 0, &first);
     let second = [
         "called",
         "response 200 ended {x-request-id: [\"1\"]}",
         "dropped",
     ];
-    request_is(rt, alloc, report, 0, &first)?;
-    request_is(rt, alloc, report, 1, &second)
-}
-
-/// Two requests that are ready, whose steps interleave.
-fn interleaved(alloc: Global) -> Got<Scenario> {
-    let made = [
-        (0, 0, Act::Call),
-        (1, 1, Act::Call),
-        (2, 1, Act::Poll),
-        (3, 0, Act::Poll),
-        (4, 1, Act::Drop),
-    ];
-    ready_requests(alloc, 2, true, steps(alloc, &made)?, 5)
-}
-
-#[test]
-fn interleaved_requests(rt: HostRuntime) -> Result<(), Fail> {
-    let scenario = interleaved(rt.alloc())?;
-    let report = report_of(&rt, rt.alloc(), &scenario)?;
-    tells_of_both(&rt, rt.alloc(), &report)?;
-    Ok(())
+    request_is(&rt, &report, 1, &second);
 }

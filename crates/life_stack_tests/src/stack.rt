@@ -1,107 +1,79 @@
 //! The stack by hand: one request, call by call.
-ghost use Rattle.std.specs.Prelude.{IfOk};
 ghost use Rattle.life_stack.specs.Stack.Driven.{BodyMay, StackMay};
 
 use crate::asserting::number_is;
-use crate::fixtures::{limits, ready_requests};
-use life_core::{Cx, Got, List, Log, Poll, Request, Response};
-use life_script::{Scenario, check};
+use crate::fixtures::read;
+use life_core::{Cx, Log, Poll, Request, Response};
+use life_script::{Limits, Scenario, check};
 use life_stack::{
     DriveBody, DriveStack, Ext, ScriptBody, abandon_body, abandon_future, call_stack, drive_stack,
     poll_body, poll_future, script_request,
 };
-use std::alloc::{AllocGlobal, Global};
+use std::alloc::AllocGlobal;
 use std::process::Abort;
-use std::test::Fail;
 
-/// Asserts that a body is at its end at its first poll; then it is given up.
-fn ends(rt: &impl Abort, mut body: DriveBody, cx: &mut Cx<'_, Log>) -> Got<()>
-    requires { BodyMay body }
+/// A request that is answered with status 200 and no body, which does not tell its end.
+const READY: &str =
+    r#"{"version":1,"limits":{"timeout":10,"timeout_status":408,"body_deadline":20,"byte_limit":5,"gate_name":"x-gate","gate_value":"open"},"requests":[{"headers":[["x-gate","open"]],"body":[],"call":"serve","polls":[{"asks":0,"then":{"respond":{"status":200,"headers":[],"body":[],"tells":false}}}]}],"steps":[],"end":0}"#;
+
+/// The stack of a scenario.
+fn stack_of(rt: &(impl Abort + AllocGlobal), limits: &Limits, scenario: &Scenario) -> DriveStack
+    ensures { StackMay result }
 {
-    let ended = match poll_body(&mut body, cx) {
-        Ok(Poll::Ready(None)) => true,
-        Ok(Poll::Ready(Some(_))) => false,
-        Ok(Poll::Pending) => false,
-        Err(_) => false,
-    };
-    assert!(*rt; ended);
-    abandon_body(body, cx)
+    check(scenario).expect(rt, "a valid scenario");
+    drive_stack(rt.alloc(), limits, scenario).expect(rt, "memory")
 }
 
-/// Asserts the status of a response, and that its body is at its end at its first poll.
-fn responds(
-    rt: &impl Abort,
-    response: Response<DriveBody, Ext>,
-    status: u16,
-    cx: &mut Cx<'_, Log>,
-) -> Got<()>
-    requires { BodyMay response.body }
-{
-    let (head, body) = response.into_parts();
-    assert_eq!(*rt; head.status().as_u16(), status);
-    ends(rt, body, cx)
+/// The first request of a scenario.
+fn request_of(rt: &(impl Abort + AllocGlobal), scenario: &Scenario) -> Request<ScriptBody, Ext> {
+    check(scenario).expect(rt, "a valid scenario");
+    assert!(rt; 0 < scenario.requests.len());
+    script_request(rt.alloc(), scenario, 0).expect(rt, "memory")
 }
 
-/// The response of a request at its first poll.
+/// The response of a request at its first poll, after which its future is given up.
 fn first_answer(
     rt: &impl Abort,
     stack: &mut DriveStack,
     request: Request<ScriptBody, Ext>,
     cx: &mut Cx<'_, Log>,
-) -> Got<Response<DriveBody, Ext>>
+) -> Response<DriveBody, Ext>
     requires { StackMay stack.old }
-    ensures { IfOk result (λ response. BodyMay response.body) }
+    ensures { BodyMay result.body }
 {
-    let mut future = call_stack(stack, request, cx)?;
-    let answer = poll_future(&mut future, cx);
-    let _ = abandon_future(future, cx);
+    let mut future = call_stack(stack, request, cx).expect(rt, "memory");
+    let answer = poll_future(&mut future, cx).expect(rt, "memory");
+    abandon_future(future, cx).expect(rt, "memory");
     match answer {
-        Ok(Poll::Ready(Ok(response))) => Ok(response),
-        Ok(Poll::Ready(Err(_))) => panic!(*rt; "an error"),
-        Ok(Poll::Pending) => panic!(*rt; "pending"),
-        Err(no_memory) => Err(no_memory),
+        Poll::Ready(Ok(response)) => response,
+        Poll::Ready(Err(_)) => panic!(*rt; "an error"),
+        Poll::Pending => panic!(*rt; "pending"),
     }
 }
 
-/// The stack of a scenario.
-fn stack_of(alloc: Global, scenario: &Scenario) -> Result<DriveStack, Fail>
-    ensures { IfOk result StackMay }
+/// Asserts that a body is at its end at its first poll; then it is given up.
+fn ends(rt: &impl Abort, mut body: DriveBody, cx: &mut Cx<'_, Log>)
+    requires { BodyMay body }
 {
-    check(scenario)?;
-    let limits = limits(alloc)?;
-    Ok(drive_stack(alloc, &limits, scenario)?)
+    match poll_body(&mut body, cx).expect(rt, "memory") {
+        Poll::Ready(None) => (),
+        Poll::Ready(Some(_)) => panic!(*rt; "a frame"),
+        Poll::Pending => panic!(*rt; "pending"),
+    }
+    abandon_body(body, cx).expect(rt, "memory");
 }
 
-/// The first request of a scenario.
-fn request_of(
-    rt: &impl Abort,
-    alloc: Global,
-    scenario: &Scenario,
-) -> Result<Request<ScriptBody, Ext>, Fail> {
-    check(scenario)?;
-    assert!(*rt; 0 < scenario.requests.len());
-    Ok(script_request(alloc, scenario, 0)?)
-}
-
-/// The response of a scenario's first request at its first poll.
-fn response_of(
-    rt: &impl Abort,
-    scenario: &Scenario,
-    cx: &mut Cx<'_, Log>,
-) -> Result<Response<DriveBody, Ext>, Fail>
-    ensures { IfOk result (λ response. BodyMay response.body) }
+/// Asserts the status of a response, and that its body is at its end at its first poll.
+fn responds(rt: &impl Abort, response: Response<DriveBody, Ext>, status: u16, cx: &mut Cx<'_, Log>)
+    requires { BodyMay response.body }
 {
-    let mut stack = stack_of(cx.alloc, scenario)?;
-    let request = request_of(rt, cx.alloc, scenario)?;
-    Ok(first_answer(rt, &mut stack, request, cx)?)
+    let (head, body) = response.into_parts();
+    assert_eq!(*rt; head.status().as_u16(), status);
+    ends(rt, body, cx);
 }
 
 /// Asserts that a scenario's first request is answered with status 200 and an empty body.
-fn is_ready(
-    rt: &(impl Abort + AllocGlobal),
-    scenario: &Scenario,
-    log: &mut Log,
-) -> Result<(), Fail> {
+fn is_ready(rt: &(impl Abort + AllocGlobal), limits: &Limits, scenario: &Scenario, log: &mut Log) {
     let span = None;
     let mut cx = Cx {
         now: 1,
@@ -109,17 +81,16 @@ fn is_ready(
         alloc: rt.alloc(),
         rec: log,
     };
-    let response = response_of(rt, scenario, &mut cx)?;
-    responds(rt, response, 200, &mut cx)?;
-    Ok(())
+    let request = request_of(rt, scenario);
+    let mut stack = stack_of(rt, limits, scenario);
+    let response = first_answer(rt, &mut stack, request, &mut cx);
+    responds(rt, response, 200, &mut cx);
 }
 
 #[test]
-fn call_by_call(rt: HostRuntime) -> Result<(), Fail> {
-    let alloc = rt.alloc();
-    let scenario = ready_requests(alloc, 1, false, List::new(alloc), 0)?;
-    let mut log = Log::new(alloc);
-    is_ready(&rt, &scenario, &mut log)?;
+fn call_by_call(rt: HostRuntime) {
+    let (limits, scenario) = read(&rt, READY);
+    let mut log = Log::new(rt.alloc());
+    is_ready(&rt, &limits, &scenario, &mut log);
     number_is(&rt, log.take().len(), 0);
-    Ok(())
 }
