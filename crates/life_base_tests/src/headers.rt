@@ -6,7 +6,7 @@ use std::alloc::Global;
 use std::process::Abort;
 
 /// Puts a value after those of its name.
-fn put(rt: &impl Abort, headers: &mut HeaderMap, name: HeaderName, value: HeaderValue) {
+pub fn put(rt: &impl Abort, headers: &mut HeaderMap, name: HeaderName, value: HeaderValue) {
     holds(rt, "memory", headers.append(name, value).is_ok());
 }
 

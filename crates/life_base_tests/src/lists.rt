@@ -62,6 +62,15 @@ fn no_items(rt: HostRuntime) {
     items_are(&rt, &List::new(rt.alloc()), &[]);
 }
 
+/// Puts a text in the place of an item, and asserts what then stands there among all items.
+fn puts_in(rt: &impl Abort, alloc: Global, list: &mut List<Text>, index: u64, text: &str) {
+    let item = Text::copy(alloc, text).expect(rt, "memory");
+    if index < list.len() {
+        *list.item_mut(index) = item;
+    }
+    item_is(rt, list.as_mut_slice().get(index as usize), Some(text));
+}
+
 /// Asserts what becomes of the list of `a`, `b` and `c`.
 fn changes(rt: &impl Abort, alloc: Global, list: &mut List<Text>) {
     pops(rt, list, "c");
@@ -69,6 +78,8 @@ fn changes(rt: &impl Abort, alloc: Global, list: &mut List<Text>) {
     put_copy(rt, alloc, list, "d");
     items_are(rt, list, &["a", "b", "d"]);
     twins_are(rt, alloc, list, &["a", "b", "d"]);
+    puts_in(rt, alloc, list, 1, "e");
+    items_are(rt, list, &["a", "e", "d"]);
 }
 
 #[test]

@@ -1,9 +1,12 @@
 //! Requests, responses and their heads.
 use crate::asserting::{holds, is, records_nothing, text_is};
-use crate::headers::first_is;
+use crate::headers::{first_is, put};
 use http::header::CONTENT_TYPE;
-use http::{Method, StatusCode, Version};
-use life_core::{Cx, Empty, Log, NoMemory, Request, Response, ResponseHead, give_up_request};
+use http::{HeaderValue, Method, StatusCode, Version};
+use life_core::{
+    Cx, Empty, Log, NoMemory, Request, Response, ResponseHead, Text, Twin, give_up_request,
+};
+use std::alloc::Global;
 use std::process::Abort;
 
 /// Asserts what a request without headers for `/` is.
@@ -45,6 +48,36 @@ fn requests(rt: HostRuntime) {
     let request = Request::from_parts(head, body);
     request_is(&rt, &request, "GET", Version::HTTP_11, 5);
     gives_up(&rt, request);
+}
+
+/// The request for `/` with a header and this text beside it.
+fn told_request(rt: &impl Abort, alloc: Global, text: &str) -> Request<Empty, Text> {
+    let text = Text::copy(alloc, text).expect(rt, "memory");
+    let mut request = Request::new(alloc, Empty, text);
+    *request.method_mut() = Method::POST;
+    let value = HeaderValue::from_static("text/html");
+    put(rt, request.headers_mut(), CONTENT_TYPE, value);
+    request
+}
+
+/// Asserts what a twin of a request is, with one header and this text.
+fn request_twin_is(rt: &impl Abort, alloc: Global, request: &Request<Empty, Text>, text: &str) {
+    let Request { head, body } = request.twin(alloc).expect(rt, "memory");
+    let Empty = body;
+    text_is(rt, "its method", head.parts.method.as_str(), "POST");
+    text_is(rt, "its path", head.parts.uri.path(), "/");
+    first_is(rt, &head.parts.headers, &CONTENT_TYPE, Some(b"text/html"));
+    text_is(rt, "the text beside it", head.ext.as_str(), text);
+}
+
+#[test]
+fn twin_of_a_request(rt: HostRuntime) {
+    let alloc = rt.alloc();
+    let request = told_request(&rt, alloc, "a");
+    request_twin_is(&rt, alloc, &request, "a");
+    let Request { head, body } = request;
+    drop(head);
+    let Empty = body;
 }
 
 /// Asserts what is lent of a request to be changed, where nothing was changed yet.

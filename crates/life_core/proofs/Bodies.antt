@@ -17,40 +17,40 @@ use Rattle.life_core.specs.declared.poll.Poll.TheVariants.{Ready, Pending}
 use Rattle.life_core.specs.declared.recorder.NoMemory.{NoMemory}
 use Rattle.life_core.specs.Boxed.{BoxFrames, BoxLeaves, NeverFaults, box_ends}
 use Rattle.life_core.specs.Full.{FullFrames, LeavesNothing, full_answer, full_ends, full_of}
-use Rattle.life_core.specs.History.{Latest, Grew, BodyHistory, BodyFollows, FrameSteps}
+use Rattle.life_core.specs.History.{Latest, Adds, BodyHistory, BodyFollows, FrameSteps}
 use Rattle.life_core.specs.Limited.{LimitedFrames, LimitedLeaves, limited_ends, length_of}
 use Rattle.life_core.specs.LimitedHistory.{LimitedStands, limited_history, room_after, within}
 use Rattle.life_core.specs.OneChunk.{TellsChunk, TellsEnd, ChunkStands, FullStands, BoxStands}
-use Rattle.life_core.proofs.Growth.{grew_none}
+use Rattle.life_core.proofs.Growth.{adds_none}
 
 ok_is : {A E : Type 0} {a b : A} → ◌≡◌ {A = Result A E} (Ok a) (Ok b) → a ≡ b
 ok_is e = cc
 
-quiet : (was now : Recorded) (es : List Event) → es ≡ [] → now ≡ was → Grew was now es
-quiet was now es e same = subst (λ fs. Grew was now fs) (sym e) (grew_none was now same)
+quiet : (was now : Recorded) (es : List Event) → es ≡ [] → now ≡ was → Adds was now es
+quiet was now es e same = subst (λ fs. Adds was now fs) (sym e) (adds_none was now same)
 
 module _ {P E : Type 0} (h : P → BodyHistory (List ℕ) E) where
   gave : (p : P) (c : Option (List ℕ)) (past : List ℕ) (was : Recorded) (q : ℕ) (a : Poll (Option (Result (Frame (List ℕ)) E))) (new : Full) (now : Recorded) →
       ChunkStands (h p) c past → Ok a ≡ full_answer c → new.chunk ≡ None → now ≡ was → FrameSteps (FullStands h) (h p) p past was q a new now
   gave p (Some chunk) [] was q a new now t e gone same = record {
     answer = ok_is e ∙ sym (t.first q);
-    grew = quiet was now _ (t.events [] q) same;
+    adds = quiet was now _ (t.events [] q) same;
     stands = rw gone (inr (chunk, t));
   }
   gave p (Some chunk) (x ∷ past) was q a new now t e gone same = elim t [ ]
   gave p None [] was q a new now t e gone same = record {
     answer = ok_is e ∙ sym (t.frame [] q);
-    grew = quiet was now _ (t.events [] q) same;
+    adds = quiet was now _ (t.events [] q) same;
     stands = rw gone (inl t);
   }
   gave p None (x ∷ past) was q a new now (inl t) e gone same = record {
     answer = ok_is e ∙ sym (t.frame (x ∷ past) q);
-    grew = quiet was now _ (t.events (x ∷ past) q) same;
+    adds = quiet was now _ (t.events (x ∷ past) q) same;
     stands = rw gone (inl t);
   }
   gave p None (x ∷ past) was q a new now (inr t) e gone same = record {
     answer = ok_is e ∙ sym (t.1.later x q past);
-    grew = quiet was now _ (t.1.events (x ∷ past) q) same;
+    adds = quiet was now _ (t.1.events (x ∷ past) q) same;
     stands = rw gone (inr t);
   }
 
@@ -124,22 +124,22 @@ module _ {P B Q E N : Type 0} (frames : Frames B (List ℕ) E) (leaves : Leaves 
 
   box_gave : (p : P) (past : List ℕ) (b : UnsyncBoxBody B Q) (was : Recorded) (m : Moment) (a : Poll (Option (Result (Frame (List ℕ)) E))) (new : UnsyncBoxBody B Q) (now : Recorded) →
       Latest m.now past → Within p b past → BoxFrames frames panic_frames b was m (Ok a) new now → FrameSteps Within (h p) p past was m.now a new now
-  box_gave p past (Box.Inner b) was m a (Box.Inner c) now l s d = let i = inner.frame p past b was m a c now l s d in record { answer = i.answer; grew = i.grew; stands = i.stands }
+  box_gave p past (Box.Inner b) was m a (Box.Inner c) now l s d = let i = inner.frame p past b was m a c now l s d in record { answer = i.answer; adds = i.adds; stands = i.stands }
   box_gave p past (Box.Inner b) was m a (Box.Panic c) now l s d = elim d [ ]
   box_gave p past (Box.Inner b) was m a Box.Empty now l s d = elim d [ ]
   box_gave p past (Box.Panic b) was m a (Box.Inner c) now l s d = elim d [ ]
-  box_gave p past (Box.Panic b) was m a (Box.Panic c) now l s d = let i = panic.frame p past b was m a c now l s d in record { answer = i.answer; grew = i.grew; stands = i.stands }
+  box_gave p past (Box.Panic b) was m a (Box.Panic c) now l s d = let i = panic.frame p past b was m a c now l s d in record { answer = i.answer; adds = i.adds; stands = i.stands }
   box_gave p past (Box.Panic b) was m a Box.Empty now l s d = elim d [ ]
   box_gave p past Box.Empty was m a (Box.Inner c) now l s d = elim d [ ]
   box_gave p past Box.Empty was m a (Box.Panic c) now l s d = elim d [ ]
   box_gave p past Box.Empty was m a Box.Empty now l s d = record {
     answer = ok_is d.0 ∙ sym (s.frame past m.now);
-    grew = quiet was now _ (s.events past m.now) d.1;
+    adds = quiet was now _ (s.events past m.now) d.1;
     stands = s;
   }
 
   box_left : (p : P) (past : List ℕ) (b : UnsyncBoxBody B Q) (was : Recorded) (m : Moment) (u : Unit) (now : Recorded) →
-      Within p b past → BoxLeaves leaves panic_leaves b was m (Ok u) now → Grew was now ((h p).left past m.now)
+      Within p b past → BoxLeaves leaves panic_leaves b was m (Ok u) now → Adds was now ((h p).left past m.now)
   box_left p past (Box.Inner b) was m u now s d = inner.left p past b was m u now s d
   box_left p past (Box.Panic b) was m u now s d = panic.left p past b was m u now s d
   box_left p past Box.Empty was m u now s d = quiet was now _ (s.left past m.now) d.1
@@ -166,7 +166,7 @@ module _ {P B E : Type 0} (frames : Frames B (List ℕ) E) (leaves : Leaves B) (
       Latest m.now past → Limits p b past → frames b.body was m (Ok i) new.body now → a ≡ within b.room i → new.room ≡ room_after b.room i → FrameSteps Limits (limited p) p past was m.now a new now
   passed p past b was m i a new now l s d e r = let f = inner.frame p.1 past b.body was m i new.body now l s.inner d in record {
     answer = e ∙ ap (λ x. within b.room x) f.answer ∙ ap (λ x. within x ((h p.1).frame past m.now)) s.room_is;
-    grew = f.grew;
+    adds = f.adds;
     stands = record {
       room_is = r ∙ ap (λ x. room_after b.room x) f.answer ∙ ap (λ x. room_after x ((h p.1).frame past m.now)) s.room_is;
       inner = f.stands;

@@ -1,9 +1,10 @@
 -- A value that is put into headers: where they have room it is inserted, else they stay.
-use Rattle.std.proofs.Common.{◌≡◌, ℕ, ◌+◌, ◌^◌, List, length, slice_get, ◌≢◌, Bool, true, false, nat_le, true≢false, Option, Some, None, MatchOption, refl, sym, ap, inl, inr, ⊎_elim}
+use Rattle.std.proofs.Common.{◌≡◌, ℕ, ◌+◌, ◌^◌, List, [], ◌∷◌, length, slice_get, ◌≢◌, Bool, true, false, nat_le, true≢false, Option, Some, None, MatchOption, refl, sym, ap, inl, inr, ⊎_elim}
 use Rattle.std.specs.Prelude.{is_none, if◌then◌else◌}
 use Rattle.std.proofs.lemmas.Bool.{and_parts, or_left, or_right, or_cases, leb-true, le-leb, cases_Bool}
 use Rattle.http_header.specs.FieldValue.{FieldValue}
-use Rattle.http_header.specs.HeaderMap.{Entries, index_of, get, get_all, insert, value_count, ContainsKey, RefusesInsert, IsFullOfNames}
+use Rattle.std.specs.List.{AllZip}
+use Rattle.http_header.specs.HeaderMap.{Entries, IsMapClone, index_of, get, get_all, insert, value_count, ContainsKey, RefusesInsert, IsFullOfNames}
 use Rattle.http_header.proofs.HeaderMapLemmas.{get_all-insert_same, get_all-insert_other}
 use Rattle.http_header.specs.Places.{IsAt, IsAbsent}
 use Rattle.http_header.proofs.PlacesLemmas.{index_of_cases}
@@ -54,3 +55,16 @@ other_by false m name other v differ = get_all-insert_other m name other v diffe
 
 pub get_all_put_other : (m : Entries FieldValue) (name other : List ℕ) (v : FieldValue) → name ≢ other → get_all (put_in m name v) other ≡ get_all m other
 get_all_put_other m name other v differ = other_by (is_full_for m name) m name other v differ
+
+zip_same : {X : Type 0} (xs ys : List X) → AllZip (λ x y. y ≡ x) xs ys → ys ≡ xs
+zip_same [] [] z = refl
+zip_same [] (y ∷ ys) z = absurd z
+zip_same (x ∷ xs) [] z = absurd z
+zip_same (x ∷ xs) (y ∷ ys) z = rw (z.0, zip_same xs ys z.1) refl
+
+-- a map whose clone has equal values is its clone
+pub map_same : (m n : Entries FieldValue) → IsMapClone (λ v copy. copy ≡ v) m n → n ≡ m
+map_same [] [] z = refl
+map_same [] (f ∷ n) z = absurd z
+map_same (e ∷ m) [] z = absurd z
+map_same ((k, v) ∷ m) ((j, w) ∷ n) z = rw (z.0.0, zip_same v w z.0.1, map_same m n z.1) refl

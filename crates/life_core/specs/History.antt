@@ -78,7 +78,15 @@ left_at h Answered t = []
 pub record Grew (was now : Recorded) (es : List Event) : Type 0 where
   pub log : now.log ≡ was.log ++ es
   pub spare : was.spare ≤ now.spare + length es
-  pub rest : now.rest ≡ was.rest
+
+-- a recorder's numbers are as they were
+abbrev pub NumbersStay : Recorded → Recorded → Type 0
+NumbersStay was now = now.rest ≡ was.rest
+
+-- what is done to a recorder by what counts nothing: these events were recorded, and its numbers stay
+pub record Adds (was now : Recorded) (es : List Event) : Type 0 where
+  pub grew : Grew was now es
+  pub numbers : NumbersStay was now
 
 -- the answer is what is said; Heads ties a response's head to what is said of it, Stands its body to its plan
 abbrev pub Matches : {H P B X E : Type 0} → (H → ResponseHead X → Type 0) → (P → B → List ℕ → Type 0) → Said H P E → Poll (Result (Response B X) E) → Type 0
@@ -95,7 +103,7 @@ Matches Heads Stands (Fails x) (Ready (Ok r)) = ⊥
 pub record FrameSteps {P B D E : Type 0} (Stands : P → B → List ℕ → Type 0) (h : BodyHistory D E) (p : P) (past : List ℕ)
     (was : Recorded) (q : ℕ) (a : Poll (Option (Result (Frame D) E))) (new : B) (now : Recorded) : Type 0 where
   pub answer : a ≡ h.frame past q
-  pub grew : Grew was now (h.events past q)
+  pub adds : Adds was now (h.events past q)
   pub stands : Stands p new (q ∷ past)
 
 -- a body of this plan that stands after some polls goes on by the history of the plan
@@ -105,7 +113,7 @@ pub record BodyFollows {P B D E : Type 0} (frames : Frames B D E) (leaves : Leav
   pub frame : (p : P) (past : List ℕ) (b : B) (was : Recorded) (m : Moment) (a : Poll (Option (Result (Frame D) E))) (new : B) (now : Recorded) →
       Latest m.now past → Stands p b past → frames b was m (Ok a) new now → FrameSteps Stands (history p) p past was m.now a new now
   pub left : (p : P) (past : List ℕ) (b : B) (was : Recorded) (m : Moment) (u : Unit) (now : Recorded) →
-      Stands p b past → leaves b was m (Ok u) now → Grew was now ((history p).left past m.now)
+      Stands p b past → leaves b was m (Ok u) now → Adds was now ((history p).left past m.now)
   pub refused : (p : P) (past : List ℕ) (b : B) (was : Recorded) (m : Moment) (e : NoMemory) (now : Recorded) →
       Stands p b past → leaves b was m (Err e) now → was.spare < length ((history p).left past m.now)
 
@@ -113,7 +121,7 @@ pub record BodyFollows {P B D E : Type 0} (frames : Frames B D E) (leaves : Leav
 pub record PollSteps {H P F B X E : Type 0} (Heads : H → ResponseHead X → Type 0) (Stands : F → Where → Type 0) (BodyStands : P → B → List ℕ → Type 0) (h : FutureHistory H P E)
     (past : List ℕ) (was : Recorded) (t : ℕ) (a : Poll (Result (Response B X) E)) (new : F) (now : Recorded) : Type 0 where
   pub answer : Matches Heads BodyStands (h.says past t) a
-  pub grew : Grew was now (h.events past t)
+  pub adds : Adds was now (h.events past t)
   pub stands : Stands new (where_after past t a)
 
 -- a future that stands after some polls goes on by its history
@@ -122,13 +130,13 @@ pub record FutureFollows {H P F B X E : Type 0} (polls : Polls F (Result (Respon
   pub poll : (past : List ℕ) (f : F) (was : Recorded) (m : Moment) (a : Poll (Result (Response B X) E)) (new : F) (now : Recorded) →
       Stands f (Waiting past) → polls f was m (Ok a) new now → PollSteps Heads Stands BodyStands h past was m.now a new now
   pub left : (w : Where) (f : F) (was : Recorded) (m : Moment) (u : Unit) (now : Recorded) →
-      Stands f w → leaves f was m (Ok u) now → Grew was now (left_at h w m.now)
+      Stands f w → leaves f was m (Ok u) now → Adds was now (left_at h w m.now)
   pub refused : (w : Where) (f : F) (was : Recorded) (m : Moment) (e : NoMemory) (now : Recorded) →
       Stands f w → leaves f was m (Err e) now → was.spare < length (left_at h w m.now)
 
 -- a service gives for such a request a future that stands at the time of the call, and serves on as before, also where it is refused
 pub record ServiceFollows {S R F : Type 0} (calls : Calls S R F) (Asks : R → Type 0) (Serves : S → Type 0) (Stands : ℕ → F → Where → Type 0) (events : List Event) : Type 0 where
   pub call : (s : S) (req : R) (was : Recorded) (m : Moment) (f : F) (new : S) (now : Recorded) →
-      Asks req → Serves s → calls s req was m (Ok f) new now → Serves new × Stands m.now f (Waiting []) × Grew was now events
+      Asks req → Serves s → calls s req was m (Ok f) new now → Serves new × Stands m.now f (Waiting []) × Adds was now events
   pub refused : (s : S) (req : R) (was : Recorded) (m : Moment) (e : NoMemory) (new : S) (now : Recorded) →
       Serves s → calls s req was m (Err e) new now → Serves new

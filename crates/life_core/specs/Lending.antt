@@ -1,5 +1,6 @@
--- What a lent part of a message writes back.
-use Rattle.std.specs.Borrow.{Lends, MutBor, Fml}
+-- What a lent part of a message or of a list writes back.
+use Rattle.std.specs.Prelude.{ℕ, List, ◌++◌, length, take, drop, slice_set}
+use Rattle.std.specs.Borrow.{Array, Lends, MutBor, Fml}
 use denote.RattleType.{RattleType}
 use Rattle.http_header.specs.contracts.map.HeaderMap.{the_row as map_row}
 use Rattle.http_header.specs.contracts.value.HeaderValue.{the_row as value_row}
@@ -7,6 +8,8 @@ use Rattle.http_uri.specs.contracts.uri.Uri.{the_row as uri_row}
 use Rattle.http.specs.contracts.method.Method.{the_row as method_row}
 use Rattle.http.specs.contracts.status.StatusCode.{the_row as status_row}
 use Rattle.http.specs.contracts.version.Version.{the_row as version_row}
+use Rattle.life_core.specs.Listed.{Listed}
+use Rattle.life_core.specs.contracts.list.List.{the_row as list_row}
 use Rattle.life_core.specs.contracts.message.Request.{the_row as request_row}
 use Rattle.life_core.specs.contracts.message.Response.{the_row as response_row}
 use Rattle.life_core.specs.declared.message.Request.{Request}
@@ -53,3 +56,16 @@ module _ (B X : RattleType) (s : MutBor (Response B.Denot X.Denot)) where
   -- the same for the body
   abbrev pub LendsResponseBody : MutBor B.Denot → Fml
   LendsResponseBody r = Lends (response_row B X) B s r (λ w. record s.now { body = w })
+
+-- the old list with these items, cut or filled up to its length
+abbrev pub refilled : {T : Type 0} → List T → List T → List T
+refilled old new = take (length old) (new ++ drop (length new) old)
+
+module _ (T : RattleType) where
+  -- the list ends with the items that were left
+  abbrev pub LendsItems : MutBor (Listed T.Denot) → MutBor (List T.Denot) → Fml
+  LendsItems l r = Lends (list_row T) (Array T 0) l r (λ w. record l.now { items = refilled l.now.items w })
+
+  -- the list ends with the item that was left at its place
+  abbrev pub LendsItem : ℕ → MutBor (Listed T.Denot) → MutBor T.Denot → Fml
+  LendsItem i l r = Lends (list_row T) T l r (λ w. record l.now { items = slice_set l.now.items i w })

@@ -61,3 +61,13 @@ impl Twin for HeaderValue {
         }
     }
 }
+
+impl Twin for HeaderMap {
+    #[tactic(auto, using(crate::proofs::Headers::map_same))]
+    fn twin(&self, _alloc: Global) -> Got<HeaderMap> {
+        match self.clone() {
+            Ok(twin) => Ok(twin),
+            Err(_) => Err(NoMemory),
+        }
+    }
+}

@@ -1,5 +1,5 @@
 //! Lists that contracts see as their items, with the room that they have for more.
-ghost use Rattle.std.specs.Prelude.{◌≡◌, ◌+◌, ◌≤◌, [], ◌∷◌, ◌++◌, length, slice_get, IfOk, OnOk, OnErr, MatchOption, ◌==◌};
+ghost use Rattle.std.specs.Prelude.{◌≡◌, ◌+◌, ◌≤◌, ◌<◌, [], ◌∷◌, ◌++◌, length, slice_get, Some, IfOk, OnOk, OnErr, MatchOption, ◌==◌};
 ghost use Rattle.std.specs.Option.{option_copied};
 
 use crate::Got;
@@ -34,6 +34,9 @@ impl<T: Drop> Drop for List<T> {
 }
 
 impl<T> List<T> {
+    ghost use Rattle.std.specs.Borrow.{sem};
+    ghost use Rattle.life_core.specs.Lending.{LendsItem, LendsItems};
+
     /// The empty list. It takes no memory.
     pub fn new(alloc: Global) -> List<T>
         ensures { result ≡ record { items = []; spare = 0 } }
@@ -69,6 +72,23 @@ impl<T> List<T> {
         ensures { result.now ≡ self.now.items }
     {
         self.items.as_slice()
+    }
+
+    /// All items, to be changed; the list keeps its length.
+    pub fn as_mut_slice(&mut self) -> &mut [T]
+        ensures* writes_back { sem 𝓛 (LendsItems T.row self.entry result) }
+        ensures value { result.now ≡ self.old.items }
+    {
+        self.items.as_mut_slice()
+    }
+
+    /// The item at an index, to be changed.
+    pub fn item_mut(&mut self, i: u64) -> &mut T
+        requires { i < length self.old.items }
+        ensures* writes_back { sem 𝓛 (LendsItem T.row i self.entry result) }
+        ensures value { slice_get self.old.items i ≡ Some result.now }
+    {
+        &mut self.items[i as usize]
     }
 
     /// Makes room for n more items. The one error is want of memory; the items stay.

@@ -11,6 +11,7 @@ use crate::context::Cx;
 use crate::header::put_value;
 use crate::recorder::{NoMemory, Recorder};
 use crate::spend::Spend;
+use crate::twin::Twin;
 use http::header::CONTENT_TYPE;
 use http::request::Parts as RequestParts;
 use http::response::Parts as ResponseParts;
@@ -25,6 +26,7 @@ pub struct RequestHead<X> {
 }
 
 /// A request with a body of type `B` and an extension of type `X`.
+#[derive(Drop)]
 pub struct Request<B, X> {
     pub head: RequestHead<X>,
     pub body: B,
@@ -161,6 +163,48 @@ impl<B, X> Request<B, X> {
         ensures value { result.now ≡ self.old.body }
     {
         &mut self.body
+    }
+}
+
+impl Twin for Uri {
+    fn twin(&self, _alloc: Global) -> Got<Uri> {
+        match self.clone() {
+            Ok(twin) => Ok(twin),
+            Err(_) => Err(NoMemory),
+        }
+    }
+}
+
+/// Parts that equal these. The one error is want of memory.
+fn twin_parts(alloc: Global, parts: &RequestParts) -> Got<RequestParts>
+    ensures { IfOk result (λ twin. twin ≡ parts.now) }
+{
+    let Ok(method) = parts.method.clone() else {
+        return Err(NoMemory);
+    };
+    let uri = parts.uri.twin(alloc)?;
+    let headers = parts.headers.twin(alloc)?;
+    let mut twin = RequestParts::new(alloc);
+    twin.method = method;
+    twin.uri = uri;
+    twin.version = parts.version;
+    twin.headers = headers;
+    Ok(twin)
+}
+
+impl<X: Twin + Drop> Twin for RequestHead<X> {
+    fn twin(&self, alloc: Global) -> Got<RequestHead<X>> {
+        let parts = twin_parts(alloc, &self.parts)?;
+        let ext = self.ext.twin(alloc)?;
+        Ok(RequestHead { parts, ext })
+    }
+}
+
+impl<B: Twin, X: Twin + Drop> Twin for Request<B, X> {
+    fn twin(&self, alloc: Global) -> Got<Request<B, X>> {
+        let head = self.head.twin(alloc)?;
+        let body = self.body.twin(alloc)?;
+        Ok(Request { head, body })
     }
 }
 

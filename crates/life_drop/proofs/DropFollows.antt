@@ -13,8 +13,8 @@ use Rattle.life_core.specs.declared.message.ResponseHead.{ResponseHead}
 use Rattle.life_core.specs.declared.poll.Poll.{Poll}
 use Rattle.life_core.specs.declared.poll.Poll.TheVariants.{Ready, Pending}
 use Rattle.life_core.specs.declared.recorder.NoMemory.{NoMemory}
-use Rattle.life_core.specs.History.{Latest, Grew, BodyHistory, BodyFollows, FrameSteps, FutureHistory, FutureFollows, PollSteps, Said, Waits, Gives, Fails, Where, Waiting, Answered, Matches, left_at, said_under, ServiceFollows}
-use Rattle.life_core.proofs.Growth.{grew_none, grew_then}
+use Rattle.life_core.specs.History.{Latest, Adds, BodyHistory, BodyFollows, FrameSteps, FutureHistory, FutureFollows, PollSteps, Said, Waits, Gives, Fails, Where, Waiting, Answered, Matches, left_at, said_under, ServiceFollows}
+use Rattle.life_core.proofs.Growth.{adds_none, adds_then}
 use Rattle.life_drop.specs.declared.on_early_drop.guard.OnEarlyDropGuard.{OnEarlyDropGuard}
 use Rattle.life_drop.specs.declared.on_early_drop.body.OnEarlyDropBody.{OnEarlyDropBody}
 use Rattle.life_drop.specs.declared.on_early_drop.future.OnEarlyDropFuture.{OnEarlyDropFuture}
@@ -27,7 +27,7 @@ use Rattle.life_drop.specs.Stands.{DropStands, drop_history, DropBodyStands, dro
 
 -- what a callback records where it is called
 pub record CallbackFollows {C : Type 0} (drops : Drops C) (fired : C → ℕ → List Event) : Type 0 where
-  pub records : (c : C) (was : Recorded) (t : ℕ) (u : Unit) (now : Recorded) → drops c t was (Ok u) now → Grew was now (fired c t)
+  pub records : (c : C) (was : Recorded) (t : ℕ) (u : Unit) (now : Recorded) → drops c t was (Ok u) now → Adds was now (fired c t)
   pub refused : (c : C) (was : Recorded) (t : ℕ) (e : NoMemory) (now : Recorded) → drops c t was (Err e) now → was.spare < length (fired c t)
 
 -- what the guard of these records
@@ -36,32 +36,32 @@ fires fired None t = []
 fires fired (Some c) t = fired c t
 
 module _ {C : Type 0} (drops : Drops C) (fired : C → ℕ → List Event) (hook : CallbackFollows drops fired) where
-  fires_grew : (g : Option C) (was : Recorded) (t : ℕ) (u : Unit) (now : Recorded) → FiresIf drops g t was (Ok u) now → Grew was now (fires fired g t)
-  fires_grew None was t u now f = grew_none was now f.1
-  fires_grew (Some c) was t u now f = hook.records c was t u now f
+  fires_adds : (g : Option C) (was : Recorded) (t : ℕ) (u : Unit) (now : Recorded) → FiresIf drops g t was (Ok u) now → Adds was now (fires fired g t)
+  fires_adds None was t u now f = adds_none was now f.1
+  fires_adds (Some c) was t u now f = hook.records c was t u now f
 
   fires_refused : (g : Option C) (was : Recorded) (t : ℕ) (e : NoMemory) (now : Recorded) → FiresIf drops g t was (Err e) now → was.spare < length (fires fired g t)
   fires_refused None was t e now f = absurd (cc f.0)
   fires_refused (Some c) was t e now f = hook.refused c was t e now f
 
   -- an inner value that records these, and then a guard
-  then_grew : {S : Type 0} (leaves : Leaves S) (s : S) (g : OnEarlyDropGuard C) (was : Recorded) (m : Moment) (now : Recorded) (es : List Event) →
-      ((u : Unit) (mid : Recorded) → leaves s was m (Ok u) mid → Grew was mid es) → (u : Unit) → LeavesThenFires leaves drops s g was m (Ok u) now → Grew was now (es ++ fires fired (callback_of g) m.now)
-  then_grew leaves s g was m now es inner u l = go l.left l.fired l.leaving l.firing l.answer_is
+  then_adds : {S : Type 0} (leaves : Leaves S) (s : S) (g : OnEarlyDropGuard C) (was : Recorded) (m : Moment) (now : Recorded) (es : List Event) →
+      ((u : Unit) (mid : Recorded) → leaves s was m (Ok u) mid → Adds was mid es) → (u : Unit) → LeavesThenFires leaves drops s g was m (Ok u) now → Adds was now (es ++ fires fired (callback_of g) m.now)
+  then_adds leaves s g was m now es inner u l = go l.left l.fired l.leaving l.firing l.answer_is
     where
-      go : (a b : Result Unit NoMemory) → leaves s was m a l.between → Fires drops g m.now l.between b now → Ok u ≡ result_and a b → Grew was now (es ++ fires fired (callback_of g) m.now)
-      go (Ok v) (Ok x) f h e = grew_then was l.between now es (fires fired (callback_of g) m.now) (inner v l.between f) (fires_grew (callback_of g) l.between m.now x now h)
+      go : (a b : Result Unit NoMemory) → leaves s was m a l.between → Fires drops g m.now l.between b now → Ok u ≡ result_and a b → Adds was now (es ++ fires fired (callback_of g) m.now)
+      go (Ok v) (Ok x) f h e = adds_then was l.between now es (fires fired (callback_of g) m.now) (inner v l.between f) (fires_adds (callback_of g) l.between m.now x now h)
       go (Ok v) (Err x) f h e = absurd cc
       go (Err v) b f h e = absurd cc
 
   then_refused : {S : Type 0} (leaves : Leaves S) (s : S) (g : OnEarlyDropGuard C) (was : Recorded) (m : Moment) (now : Recorded) (es : List Event) →
-      ((u : Unit) (mid : Recorded) → leaves s was m (Ok u) mid → Grew was mid es) → ((e : NoMemory) (mid : Recorded) → leaves s was m (Err e) mid → was.spare < length es) →
+      ((u : Unit) (mid : Recorded) → leaves s was m (Ok u) mid → Adds was mid es) → ((e : NoMemory) (mid : Recorded) → leaves s was m (Err e) mid → was.spare < length es) →
       (e : NoMemory) → LeavesThenFires leaves drops s g was m (Err e) now → was.spare < length (es ++ fires fired (callback_of g) m.now)
   then_refused leaves s g was m now es inner refused x l = go l.left l.fired l.leaving l.firing l.answer_is
     where
       go : (a b : Result Unit NoMemory) → leaves s was m a l.between → Fires drops g m.now l.between b now → Err x ≡ result_and a b → was.spare < length (es ++ fires fired (callback_of g) m.now)
       go (Ok v) (Ok y) f h e = absurd cc
-      go (Ok v) (Err y) f h e = rw length-append (omega (arith, (inner v l.between f).spare, fires_refused (callback_of g) l.between m.now y now h))
+      go (Ok v) (Err y) f h e = rw length-append (omega (arith, (inner v l.between f).grew.spare, fires_refused (callback_of g) l.between m.now y now h))
       go (Err v) b f h e = rw length-append (omega (arith, refused v l.between f))
 
 -- what a body hook gives at the response: the callback by what was begun and by the head
@@ -112,17 +112,17 @@ module _ {G P F B D E X T H I C K : Type 0} (Q : Type 0) (polls : Polls F (Resul
   step past f was m (Ready (Ok r)) new now s d = let i = inner.poll past f.inner was m _ new.inner now s.inner d.inner in
       let k = responded f.intermediate _ s.begun_is d.callback.1.hook in record {
         answer = gave (h.says past m.now) r f.on_body_drop new.on_body_drop k.0 d.callback.0 k.1 k.2 d.callback.2 i.answer;
-        grew = i.grew;
+        adds = i.adds;
         stands = record { guard_is = d.callback.1.guard; begun_is = tt; inner = i.stands };
       }
   step past f was m (Ready (Err x)) new now s d = let i = inner.poll past f.inner was m _ new.inner now s.inner d.0 in record {
     answer = failed (h.says past m.now) x i.answer;
-    grew = i.grew;
+    adds = i.adds;
     stands = record { guard_is = ap (λ z. callback_of z.guard) d.1; begun_is = tt; inner = i.stands };
   }
   step past f was m Pending new now s d = let i = inner.poll past f.inner was m _ new.inner now s.inner d.0 in record {
     answer = waited (h.says past m.now) i.answer;
-    grew = i.grew;
+    adds = i.adds;
     stands = record { guard_is = ap (λ z. callback_of z.guard) d.1 ∙ s.guard_is; begun_is = ap (λ z. z.intermediate) d.1 ∙ s.begun_is; inner = i.stands };
   }
 
@@ -133,8 +133,8 @@ module _ {G P F B D E X T H I C K : Type 0} (Q : Type 0) (polls : Polls F (Resul
   pub drop_follows : FutureFollows (EarlyPolls polls responds ends body_leaves) (EarlyLeaves leaves drops) Heads Here BS (drop_history (fired callback) h)
   drop_follows = record {
     poll = step;
-    left = λ w f was m u now s d. subst (λ es. Grew was now es) (future_events w (callback_of f.guard) m.now s.guard_is)
-        (then_grew drops fired callbacks leaves f.inner f.guard was m now (left_at h w m.now) (λ v mid l. inner.left w f.inner was m v mid s.inner l) u d);
+    left = λ w f was m u now s d. subst (λ es. Adds was now es) (future_events w (callback_of f.guard) m.now s.guard_is)
+        (then_adds drops fired callbacks leaves f.inner f.guard was m now (left_at h w m.now) (λ v mid l. inner.left w f.inner was m v mid s.inner l) u d);
     refused = λ w f was m e now s d. subst (λ es. was.spare < length es) (future_events w (callback_of f.guard) m.now s.guard_is)
         (then_refused drops fired callbacks leaves f.inner f.guard was m now (left_at h w m.now) (λ v mid l. inner.left w f.inner was m v mid s.inner l) (λ x mid l. inner.refused w f.inner was m x mid s.inner l) e d);
   }
@@ -159,7 +159,7 @@ module _ {G P B D E K : Type 0} (frames : Frames B D E) (body_leaves : Leaves B)
   frame_step p past b was m a new now l s d = let i = body.frame p.1 past b.inner was m a new.inner now l s.inner d.inner in
       let ends_is = ap (λ x. is_ending_frame x (ends new.inner)) i.answer ∙ ap (is_ending_frame ((hb p.1).frame past m.now)) (body.tells p.1 new.inner (m.now ∷ past) i.stands) in record {
         answer = i.answer;
-        grew = i.grew;
+        adds = i.adds;
         stands = record {
           guard_is = d.guard ∙ ap (λ g. if is_ending_frame a (ends new.inner) then None else g) s.guard_is
               ∙ guards (ended (hb p.1) past) (is_ending_frame a (ends new.inner)) (Some (given p.0))
@@ -172,8 +172,8 @@ module _ {G P B D E K : Type 0} (frames : Frames B D E) (body_leaves : Leaves B)
   drop_body_follows = record {
     tells = λ p b past s. body.tells p.1 b.inner past s.inner;
     frame = frame_step;
-    left = λ p past b was m u now s d. subst (λ es. Grew was now ((hb p.1).left past m.now ++ es)) (body_events (ended (hb p.1) past) (given p.0) (callback_of b.guard) m.now s.guard_is)
-        (then_grew drops fired callbacks body_leaves b.inner b.guard was m now ((hb p.1).left past m.now) (λ v mid l. body.left p.1 past b.inner was m v mid s.inner l) u d);
+    left = λ p past b was m u now s d. subst (λ es. Adds was now ((hb p.1).left past m.now ++ es)) (body_events (ended (hb p.1) past) (given p.0) (callback_of b.guard) m.now s.guard_is)
+        (then_adds drops fired callbacks body_leaves b.inner b.guard was m now ((hb p.1).left past m.now) (λ v mid l. body.left p.1 past b.inner was m v mid s.inner l) u d);
     refused = λ p past b was m e now s d. subst (λ es. was.spare < length ((hb p.1).left past m.now ++ es)) (body_events (ended (hb p.1) past) (given p.0) (callback_of b.guard) m.now s.guard_is)
         (then_refused drops fired callbacks body_leaves b.inner b.guard was m now ((hb p.1).left past m.now) (λ v mid l. body.left p.1 past b.inner was m v mid s.inner l) (λ x mid l. body.refused p.1 past b.inner was m x mid s.inner l) e d);
   }

@@ -1,5 +1,6 @@
 -- `NoteDrop` records each early drop with the time since the call.
 use Rattle.std.proofs.Common.{◌≡◌, ℕ, List, [], ◌∷◌, Ok, Result, ap, arith, ◌∙◌}
+use Rattle.life_core.proofs.Growth.{adds_one}
 use Rattle.life_core.specs.declared.event.DropKind.TheVariants.{Future, Body}
 use Rattle.life_core.specs.declared.event.Event.{Event}
 use Rattle.life_core.specs.declared.message.ResponseHead.{ResponseHead}
@@ -16,7 +17,7 @@ notes c t = noted c t ∷ []
 
 pub note_records : CallbackFollows NotesDrop notes
 note_records = record {
-  records = λ c was t u now f. record { log = f.0; spare = f.1; rest = f.2 };
+  records = λ c was t u now f. adds_one was now _ f;
   refused = λ c was t e now f. omega (arith, f.0);
 }
 

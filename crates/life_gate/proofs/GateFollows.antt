@@ -1,8 +1,8 @@
 -- `ValidateRequestHeader` answers as its inner future, or refuses by its validator's judgement.
 use Rattle.std.proofs.Common.{◌≡◌, ℕ, ◌<◌, List, [], length, Bool, true, false, Some, None, Ok, Err, Result, refl, ◌∙◌, subst}
 use Rattle.std.specs.Prelude.{⊤}
-use Rattle.life_core.proofs.Growth.{grew_none}
-use Rattle.life_core.specs.History.{Grew, BodyHistory, BodyFollows, FutureHistory, FutureFollows, Where, Waiting, Answered, Matches, where_after, left_at, ServiceFollows, answers_instead, records_unless}
+use Rattle.life_core.proofs.Growth.{adds_none}
+use Rattle.life_core.specs.History.{Adds, BodyHistory, BodyFollows, FutureHistory, FutureFollows, Where, Waiting, Answered, Matches, where_after, left_at, ServiceFollows, answers_instead, records_unless}
 use Rattle.life_core.specs.Meaning.{Polls, Leaves, Frames, Calls, Reply}
 use Rattle.life_core.specs.Message.{IsBare}
 use Rattle.life_core.specs.Moment.{Moment}
@@ -44,13 +44,13 @@ module _ {H Q F B X E D A : Type 0} (polls : Polls F (Result (Response B X) E)) 
 
   abbrev Polled : Bool → List ℕ → Recorded → Moment → Poll (Result (Response B X) E) → Kind F B X → Recorded → Type 0
   Polled shut past was m a new now =
-      Matches Heads BodyStands ((history shut).says past m.now) a × Grew was now ((history shut).events past m.now) × Here shut new (where_after past m.now a)
+      Matches Heads BodyStands ((history shut).says past m.now) a × Adds was now ((history shut).events past m.now) × Here shut new (where_after past m.now a)
 
   refused_poll : (past : List ℕ) (r : Response B X) (new : Kind F B X) (was : Recorded) (m : Moment) (a : Poll (Result (Response B X) E)) (now : Recorded) →
       Refusal Heads BodyStands head plan r → KindPolls polls (Error (Some r)) was m (Ok a) new now → Polled true past was m a new now
   refused_poll past r (Future g) was m a now s d = elim d [ ]
   refused_poll past r (Error (Some q)) was m a now s d = elim d [ ]
-  refused_poll past r (Error None) was m (Ready (Ok q)) now s d = (rw (same_reply q r d.0) s, grew_none was now d.1, tt)
+  refused_poll past r (Error None) was m (Ready (Ok q)) now s d = (rw (same_reply q r d.0) s, adds_none was now d.1, tt)
   refused_poll past r (Error None) was m (Ready (Err x)) now s d = absurd (cc d.0)
   refused_poll past r (Error None) was m Pending now s d = absurd (cc d.0)
 
@@ -59,17 +59,17 @@ module _ {H Q F B X E D A : Type 0} (polls : Polls F (Result (Response B X) E)) 
   polled true past (Future f) new was m a now s d = elim s [ ]
   polled true past (Error None) new was m a now s d = elim s [ ]
   polled true past (Error (Some r)) new was m a now s d = refused_poll past r new was m a now s d
-  polled false past (Future f) (Future g) was m a now s d = let i = inner.poll past f was m a g now s d in (i.answer, i.grew, i.stands)
+  polled false past (Future f) (Future g) was m a now s d = let i = inner.poll past f was m a g now s d in (i.answer, i.adds, i.stands)
   polled false past (Future f) (Error r) was m a now s d = elim d [ ]
   polled false past (Error r) new was m a now s d = elim s [ ]
 
   left : (shut : Bool) (w : Where) (f : Kind F B X) (was : Recorded) (m : Moment) (u : Unit) (now : Recorded) →
-      Here shut f w → KindLeaves leaves body_leaves f was m (Ok u) now → Grew was now (left_at (history shut) w m.now)
+      Here shut f w → KindLeaves leaves body_leaves f was m (Ok u) now → Adds was now (left_at (history shut) w m.now)
   left true w (Future f) was m u now s d = elim s [ ]
-  left true (Waiting past) (Error (Some r)) was m u now s d = subst (λ es. Grew was now es) (silent m.now) (body.left plan [] r.body was m u now s.1 d)
+  left true (Waiting past) (Error (Some r)) was m u now s d = subst (λ es. Adds was now es) (silent m.now) (body.left plan [] r.body was m u now s.1 d)
   left true Answered (Error (Some r)) was m u now s d = elim s [ ]
   left true (Waiting past) (Error None) was m u now s d = elim s [ ]
-  left true Answered (Error None) was m u now s d = grew_none was now d.1
+  left true Answered (Error None) was m u now s d = adds_none was now d.1
   left false w (Future f) was m u now s d = inner.left w f was m u now s d
   left false w (Error r) was m u now s d = elim s [ ]
 
@@ -87,7 +87,7 @@ module _ {H Q F B X E D A : Type 0} (polls : Polls F (Result (Response B X) E)) 
   pub gate_follows : (shut : Bool) →
       FutureFollows (GatePolls polls) (GateLeaves leaves body_leaves) Heads (GateStands shut Heads BodyStands head plan Stands) BodyStands (answers_instead shut head plan h)
   gate_follows shut = record {
-    poll = λ past f was m a new now s d. let r = polled shut past f.kind new.kind was m a now s d in record { answer = r.0; grew = r.1; stands = r.2 };
+    poll = λ past f was m a new now s d. let r = polled shut past f.kind new.kind was m a now s d in record { answer = r.0; adds = r.1; stands = r.2 };
     left = λ w f was m u now s d. left shut w f.kind was m u now s d;
     refused = λ w f was m e now s d. unable shut w f.kind was m e now s d;
   }
@@ -96,11 +96,11 @@ module _ {H Q F B X E D A : Type 0} (polls : Polls F (Result (Response B X) E)) 
 module _ {H Q S V B P X F : Type 0} (calls : Calls S (Request B X) F) (validates : Validates V B P X) (leaves : Leaves B) (body_leaves : Leaves P)
     (Asks : Request B X → Type 0) (Serves : S → Type 0) (Stands : ℕ → F → Where → Type 0) (es : List Event)
     (Keeps : V → Type 0) (refuses : Request B X → Bool) (Heads : H → ResponseHead X → Type 0) (BodyStands : Q → P → List ℕ → Type 0) (head : H) (plan : Q)
-    (quiet : (body : B) (was : Recorded) (m : Moment) (u : Unit) (now : Recorded) → leaves body was m (Ok u) now → Grew was now [])
+    (quiet : (body : B) (was : Recorded) (m : Moment) (u : Unit) (now : Recorded) → leaves body was m (Ok u) now → Adds was now [])
     (judges : Judges validates Keeps refuses Heads BodyStands head plan)
     (inner : ServiceFollows calls Asks Serves Stands es) where
   abbrev Served : Bool → S → Moment → ResponseFuture F P X → Recorded → Recorded → Type 0
-  Served shut new m f was now = Serves new × GateStands shut Heads BodyStands head plan (Stands m.now) f (Waiting []) × Grew was now (records_unless shut es)
+  Served shut new m f was now = Serves new × GateStands shut Heads BodyStands head plan (Stands m.now) f (Waiting []) × Adds was now (records_unless shut es)
 
   abbrev JudgedTo : Bool → Verdict P X → Type 0
   JudgedTo shut verdict = Judged (shut ≡ false) (shut ≡ true) (Refusal Heads BodyStands head plan) verdict
@@ -141,11 +141,11 @@ module _ {H Q S V B P X F : Type 0} (calls : Calls S (Request B X) F) (validates
 module _ {H Q S V B P X F : Type 0} (calls : Calls S (Request B X) F) (validates : Validates V B P X) (leaves : Leaves B) (body_leaves : Leaves P)
     (Serves : S → Type 0) (Any : ℕ → F → Where → Type 0) (Keeps : V → Type 0) (refuses : Request B X → Bool)
     (Heads : H → ResponseHead X → Type 0) (BodyStands : Q → P → List ℕ → Type 0) (head : H) (plan : Q)
-    (quiet : (body : B) (was : Recorded) (m : Moment) (u : Unit) (now : Recorded) → leaves body was m (Ok u) now → Grew was now [])
+    (quiet : (body : B) (was : Recorded) (m : Moment) (u : Unit) (now : Recorded) → leaves body was m (Ok u) now → Adds was now [])
     (judges : Judges validates Keeps refuses Heads BodyStands head plan)
     (inner : ServiceFollows calls (λ req. ⊤) Serves Any []) where
   gave : (verdict : Verdict P X) (s new : S) (seen : Request B X) (was : Recorded) (m : Moment) (f : ResponseFuture F P X) (now : Recorded) →
-      Serves s → Follows calls validates leaves body_leaves verdict s seen was m (Ok f) new now → Serves new × Grew was now []
+      Serves s → Follows calls validates leaves body_leaves verdict s seen was m (Ok f) new now → Serves new × Adds was now []
   gave (Ok (Ok u)) s new seen was m f now k d = let i = inner.call s seen was m d.0 new now tt k d.1 in (i.0, i.2)
   gave (Ok (Err r)) s new seen was m f now k d = (rw d.1 k, quiet seen.body was m tt now d.0.0)
   gave (Err x) s new seen was m f now k d = absurd (cc d.0)

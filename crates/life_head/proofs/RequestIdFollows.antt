@@ -55,17 +55,17 @@ module _ {H G P F B X E : Type 0} (polls : Polls F (Result (Response B X) E)) (l
       Here f (Waiting past) → PropagatePolls polls body_leaves holds after f was m (Ok a) new now → PollSteps Told Here BodyStands (propagate_history mark h) past was m.now a new now
   step past f was m (Ready (Ok r)) new now s d = let i = inner.poll past f.inner was m _ new.inner now s.inner d.inner in record {
     answer = gave (h.says past m.now) d.head r (rw (s.name_is, s.kept_is) at d.marks) i.answer;
-    grew = i.grew;
+    adds = i.adds;
     stands = record { name_is = ap (λ x. x.header_name) d.same ∙ s.name_is; kept_is = tt; inner = i.stands };
   }
   step past f was m (Ready (Err x)) new now s d = let i = inner.poll past f.inner was m _ new.inner now s.inner d.0 in record {
     answer = failed (h.says past m.now) x i.answer;
-    grew = i.grew;
+    adds = i.adds;
     stands = record { name_is = ap (λ x. x.header_name) d.1 ∙ s.name_is; kept_is = tt; inner = i.stands };
   }
   step past f was m Pending new now s d = let i = inner.poll past f.inner was m _ new.inner now s.inner d.0 in record {
     answer = waited (h.says past m.now) i.answer;
-    grew = i.grew;
+    adds = i.adds;
     stands = record { name_is = ap (λ x. x.header_name) d.1 ∙ s.name_is; kept_is = ap (λ x. x.kept) d.1 ∙ s.kept_is; inner = i.stands };
   }
 

@@ -1,8 +1,8 @@
 -- `CatchPanic` answers as its inner future, and for its panics as its handler.
 use Rattle.std.proofs.Common.{◌≡◌, ℕ, ◌<◌, List, [], ◌∷◌, length, Option, Some, None, Ok, Err, Result, refl, ap, ◌∙◌, subst, ⊎_elim}
 use Rattle.std.specs.Prelude.{⊤, codes, IsSome, IsSomeAnd}
-use Rattle.life_core.proofs.Growth.{grew_then}
-use Rattle.life_core.specs.History.{Grew, BodyHistory, FutureHistory, FutureFollows, PollSteps, Said, Waits, Gives, Fails, Where, Waiting, Answered, Matches, where_after, left_at, ServiceFollows}
+use Rattle.life_core.proofs.Growth.{adds_one, adds_then}
+use Rattle.life_core.specs.History.{Adds, BodyHistory, FutureHistory, FutureFollows, PollSteps, Said, Waits, Gives, Fails, Where, Waiting, Answered, Matches, where_after, left_at, ServiceFollows}
 use Rattle.life_core.specs.Meaning.{Polls, Leaves, Calls, LeavesIfAny, PollsWithin}
 use Rattle.life_core.specs.Message.{IsText}
 use Rattle.life_core.specs.Moment.{Moment}
@@ -29,7 +29,7 @@ use Rattle.life_limit.specs.declared.catch_panic.service.CatchPanic.{CatchPanic}
 pub record HandlerFollows {H P T Q X : Type 0} (handles : Handles T Q X) (Keeps : T → Type 0) (Heads : H → ResponseHead X → Type 0) (Stands : P → Q → List ℕ → Type 0)
     (head : H) (plan : P) (fired : PanicText → List Event) : Type 0 where
   pub responds : (old : T) (text : PanicText) (was : Recorded) (r : Response Q X) (new : T) (now : Recorded) →
-      Keeps old → handles old text was (Ok r) new now → Heads head r.head × Stands plan r.body [] × Grew was now (fired text)
+      Keeps old → handles old text was (Ok r) new now → Heads head r.head × Stands plan r.body [] × Adds was now (fired text)
 
 module _ {H P F T B Q X E D : Type 0} (polls : Polls F (Result (Response B X) (Fault E))) (leaves : Leaves F) (handles : Handles T Q X) (Keeps : T → Type 0) (Heads : H → ResponseHead X → Type 0)
     (panic_head : H) (plan : P) (fired : PanicText → List Event)
@@ -48,24 +48,24 @@ module _ {H P F T B Q X E D : Type 0} (polls : Polls F (Result (Response B X) (F
   -- an answer, by what the inner one says and by what it records
   abbrev Steps : List ℕ → Recorded → ℕ → Reply → Option F → Recorded → Type 0
   Steps past was t a g now =
-      Matches Heads BS (caught panic_head plan (h.says past t)) a × Grew was now (with_panic fired (h.says past t) (h.events past t)) × Watches Stands g (where_after past t a)
+      Matches Heads BS (caught panic_head plan (h.says past t)) a × Adds was now (with_panic fired (h.says past t) (h.events past t)) × Watches Stands g (where_after past t a)
 
   -- the inner future was polled once, with this inner answer
   polled : (past : List ℕ) (f g : Option F) (was : Recorded) (m : Moment) (a : Poll (Result (Response B X) (Fault E))) (now : Recorded) →
       Watches Stands f (Waiting past) → PollsWithin polls f was m (Ok a) g now →
-      Matches Heads BodyStands (h.says past m.now) a × Grew was now (h.events past m.now) × Watches Stands g (where_after past m.now a)
+      Matches Heads BodyStands (h.says past m.now) a × Adds was now (h.events past m.now) × Watches Stands g (where_after past m.now a)
   polled past None g was m a now s d = elim s [ ]
   polled past (Some f) None was m a now s d = elim d [ ]
-  polled past (Some f) (Some g) was m a now s d = let i = inner.poll past f was m a g now s d in (i.answer, i.grew, i.stands)
+  polled past (Some f) (Some g) was m a now s d = let i = inner.poll past f was m a g now s d in (i.answer, i.adds, i.stands)
 
-  gave : (s : Said H P (Fault E)) (es : List Event) (head : ResponseHead X) (b : B) (was now : Recorded) → Matches Heads BodyStands s (Ready (Ok (record { head = head; body = b }))) → Grew was now es →
-      Matches Heads BS (caught panic_head plan s) (Ready (Ok (record { head = head; body = Inner b }))) × Grew was now (with_panic fired s es)
+  gave : (s : Said H P (Fault E)) (es : List Event) (head : ResponseHead X) (b : B) (was now : Recorded) → Matches Heads BodyStands s (Ready (Ok (record { head = head; body = b }))) → Adds was now es →
+      Matches Heads BS (caught panic_head plan s) (Ready (Ok (record { head = head; body = Inner b }))) × Adds was now (with_panic fired s es)
   gave Waits es head b was now m g = elim m [ ]
   gave (Gives k p) es head b was now m g = (m, g)
   gave (Fails x) es head b was now m g = elim m [ ]
 
-  failed : (s : Said H P (Fault E)) (es : List Event) (x : E) (was now : Recorded) → Matches Heads BodyStands s (Ready (Err (fault.Err x))) → Grew was now es →
-      Matches Heads BS (caught panic_head plan s) (Ready (Err x)) × Grew was now (with_panic fired s es)
+  failed : (s : Said H P (Fault E)) (es : List Event) (x : E) (was now : Recorded) → Matches Heads BodyStands s (Ready (Err (fault.Err x))) → Adds was now es →
+      Matches Heads BS (caught panic_head plan s) (Ready (Err x)) × Adds was now (with_panic fired s es)
   failed Waits es x was now m g = elim m [ ]
   failed (Gives k p) es x was now m g = elim m [ ]
   failed (Fails (fault.Panicked text)) es x was now m g = absurd (cc m)
@@ -74,19 +74,19 @@ module _ {H P F T B Q X E D : Type 0} (polls : Polls F (Result (Response B X) (F
       err_is : ◌≡◌ {A = Fault E} (fault.Err x) (fault.Err y) → x ≡ y
       err_is e = cc
 
-  waited : (s : Said H P (Fault E)) (es : List Event) (was now : Recorded) → Matches Heads BodyStands s Pending → Grew was now es →
-      Matches Heads BS (caught panic_head plan s) Pending × Grew was now (with_panic fired s es)
+  waited : (s : Said H P (Fault E)) (es : List Event) (was now : Recorded) → Matches Heads BodyStands s Pending → Adds was now es →
+      Matches Heads BS (caught panic_head plan s) Pending × Adds was now (with_panic fired s es)
   waited Waits es was now m g = (tt, g)
   waited (Gives k p) es was now m g = elim m [ ]
   waited (Fails x) es was now m g = elim m [ ]
 
   -- a panic, and then the handler's response
-  panicked : (s : Said H P (Fault E)) (es : List Event) (text : PanicText) (a : Reply) (was between now : Recorded) → Matches Heads BodyStands s (Ready (Err (fault.Panicked text))) → Grew was between es →
-      Matches Heads BS (Gives panic_head plan) a → Grew between now (fired text) → Matches Heads BS (caught panic_head plan s) a × Grew was now (with_panic fired s es)
+  panicked : (s : Said H P (Fault E)) (es : List Event) (text : PanicText) (a : Reply) (was between now : Recorded) → Matches Heads BodyStands s (Ready (Err (fault.Panicked text))) → Adds was between es →
+      Matches Heads BS (Gives panic_head plan) a → Adds between now (fired text) → Matches Heads BS (caught panic_head plan s) a × Adds was now (with_panic fired s es)
   panicked Waits es text a was between now m g r f = elim m [ ]
   panicked (Gives k p) es text a was between now m g r f = elim m [ ]
   panicked (Fails (fault.Panicked other)) es text a was between now m g r f =
-      (r, grew_then was between now es (fired other) g (subst (λ t. Grew between now (fired t)) (text_is m) f))
+      (r, adds_then was between now es (fired other) g (subst (λ t. Adds between now (fired t)) (text_is m) f))
     where
       text_is : ◌≡◌ {A = Fault E} (fault.Panicked text) (fault.Panicked other) → text ≡ other
       text_is e = cc
@@ -94,7 +94,7 @@ module _ {H P F T B Q X E D : Type 0} (polls : Polls F (Result (Response B X) (F
 
   -- the handler's response
   handled : (old : T) (text : PanicText) (was : Recorded) (head : ResponseHead X) (body : UnsyncBoxBody B Q) (new : T) (now : Recorded) → Keeps old → HandlerBody handles old text was head body new now →
-      Matches {E = E} Heads BS (Gives panic_head plan) (Ready (Ok (record { head = head; body = body }))) × Grew was now (fired text)
+      Matches {E = E} Heads BS (Gives panic_head plan) (Ready (Ok (record { head = head; body = body }))) × Adds was now (fired text)
   handled old text was head (Inner b) new now k d = elim d [ ]
   handled old text was head (Panic q) new now k d = let r = handler.responds old text was (record { head = head; body = q }) new now k d in ((r.0, r.1), r.2)
   handled old text was head Empty new now k d = elim d [ ]
@@ -141,17 +141,17 @@ module _ {H P F T B Q X E D : Type 0} (polls : Polls F (Result (Response B X) (F
       (λ c. ⊎_elim
       (λ d. let r = passes past f was m a new now s.inner d.inner in record {
         answer = r.0;
-        grew = r.1;
+        adds = r.1;
         stands = record { no_text = ap (λ x. x.text) d.same ∙ s.no_text; handler = until past m.now a new.handler (kept (Waiting past) f new d.same s.handler); inner = r.2 };
       })
       (λ d. let r = catches past f was m a new now s.handler s.inner d in record {
         answer = r.0.0;
-        grew = r.0.1;
+        adds = r.0.1;
         stands = record { no_text = ap (λ x. x.text) d.same ∙ s.no_text; handler = r.1; inner = r.0.2 };
       }) c) c
 
   left_by : (w : Where) (f : Option F) (was : Recorded) (m : Moment) (u : Unit) (now : Recorded) →
-      Watches Stands f w → LeavesIfAny leaves f was m (Ok u) now → Grew was now (left_at (catch_history fired panic_head plan h) w m.now)
+      Watches Stands f w → LeavesIfAny leaves f was m (Ok u) now → Adds was now (left_at (catch_history fired panic_head plan h) w m.now)
   left_by w None was m u now s d = elim s [ ]
   left_by (Waiting past) (Some f) was m u now s d = inner.left (Waiting past) f was m u now s d
   left_by Answered (Some f) was m u now s d = inner.left Answered f was m u now s d
@@ -208,5 +208,5 @@ module _ {H P X D : Type 0} (is_ext : X → Type 0) (Heads : H → ResponseHead 
     (hb : P → BodyHistory (List ℕ) D) (plan : P) (told : TellsChunk (codes "Service panicked") (hb plan)) where
   pub panic_handler_follows : HandlerFollows (DefaultHandles is_ext) (λ handler. ⊤) Heads (FullStands hb) panic_head plan (λ text. panic_record text ∷ [])
   panic_handler_follows = record {
-    responds = λ old text was r new now k d. (heads r.head d.1, rw d.2 told, record { log = d.0.0; spare = d.0.1; rest = d.0.2 });
+    responds = λ old text was r new now k d. (heads r.head d.1, rw d.2 told, adds_one was now _ d.0);
   }

@@ -2,10 +2,10 @@
 use Rattle.std.proofs.Common.{◌≡◌, ℕ, ◌<◌, List, [], length, Bool, true, false, Option, Some, None, Ok, Err, Result, refl, ap, ◌∙◌}
 use Rattle.std.specs.Prelude.{⊤, codes}
 use Rattle.http_body.specs.declared.frame.Frame.{Frame}
-use Rattle.life_core.proofs.Growth.{grew_none}
+use Rattle.life_core.proofs.Growth.{adds_none}
 use Rattle.life_core.specs.Boxed.{NeverFaults}
 use Rattle.life_core.specs.Full.{FullFrames, LeavesNothing, full_ends}
-use Rattle.life_core.specs.History.{Latest, Grew, BodyHistory, BodyFollows, FrameSteps, FutureHistory, FutureFollows, Said, Waits, Gives, Fails, Where, Waiting, Answered, Matches, where_after, left_at, ServiceFollows, answers_instead, records_unless}
+use Rattle.life_core.specs.History.{Latest, Adds, BodyHistory, BodyFollows, FrameSteps, FutureHistory, FutureFollows, Said, Waits, Gives, Fails, Where, Waiting, Answered, Matches, where_after, left_at, ServiceFollows, answers_instead, records_unless}
 use Rattle.life_core.specs.Meaning.{Polls, Leaves, Frames, Calls, LeavesIfAny}
 use Rattle.life_core.specs.Message.{IsText}
 use Rattle.life_core.specs.Moment.{Moment}
@@ -38,13 +38,13 @@ module _ {P B E : Type 0} (frames : Frames B (List ℕ) E) (leaves : Leaves B) (
 
   frame_step : (p : P) (past : List ℕ) (b : ResponseBody B) (was : Recorded) (m : Moment) (a : Poll (Option (Result (Frame (List ℕ)) E))) (new : ResponseBody B) (now : Recorded) →
       Latest m.now past → HereBody p b past → LimitBodyFrames frames b was m (Ok a) new now → FrameSteps HereBody (h p) p past was m.now a new now
-  frame_step p past (Body b) was m a (Body c) now l s d = let i = inner.frame p past b was m a c now l s d in record { answer = i.answer; grew = i.grew; stands = i.stands }
+  frame_step p past (Body b) was m a (Body c) now l s d = let i = inner.frame p past b was m a c now l s d in record { answer = i.answer; adds = i.adds; stands = i.stands }
   frame_step p past (Body b) was m a (PayloadTooLarge c) now l s d = elim d [ ]
   frame_step p past (PayloadTooLarge b) was m a (Body c) now l s d = elim d [ ]
-  frame_step p past (PayloadTooLarge b) was m a (PayloadTooLarge c) now l s d = let i = full.frame p past b was m a c now l s d in record { answer = i.answer; grew = i.grew; stands = i.stands }
+  frame_step p past (PayloadTooLarge b) was m a (PayloadTooLarge c) now l s d = let i = full.frame p past b was m a c now l s d in record { answer = i.answer; adds = i.adds; stands = i.stands }
 
   left : (p : P) (past : List ℕ) (b : ResponseBody B) (was : Recorded) (m : Moment) (u : Unit) (now : Recorded) →
-      HereBody p b past → LimitBodyLeaves leaves b was m (Ok u) now → Grew was now ((h p).left past m.now)
+      HereBody p b past → LimitBodyLeaves leaves b was m (Ok u) now → Adds was now ((h p).left past m.now)
   left p past (Body b) was m u now s d = inner.left p past b was m u now s d
   left p past (PayloadTooLarge b) was m u now s d = full.left p past b was m u now s d
 
@@ -81,18 +81,18 @@ module _ {H P F B X E D : Type 0} (polls : Polls F (Result (Response B X) E)) (l
   waited (Fails y) m = elim m [ ]
 
   abbrev Polled : List ℕ → Recorded → Moment → Poll (Result (Response (ResponseBody B) X) E) → F → Recorded → Type 0
-  Polled past was m a g now = Matches Heads BS (h.says past m.now) a × Grew was now (h.events past m.now) × Stands g (where_after past m.now a)
+  Polled past was m a g now = Matches Heads BS (h.says past m.now) a × Adds was now (h.events past m.now) × Stands g (where_after past m.now a)
 
   responded : (past : List ℕ) (f g : F) (was : Recorded) (m : Moment) (head : ResponseHead X) (body : ResponseBody B) (now : Recorded) →
       Stands f (Waiting past) → InnerBody polls is_ext f was m head body g now → Polled past was m (Ready (Ok (record { head = head; body = body }))) g now
-  responded past f g was m head (Body b) now s d = let i = inner.poll past f was m _ g now s d in (gave (h.says past m.now) head b i.answer, i.grew, i.stands)
+  responded past f g was m head (Body b) now s d = let i = inner.poll past f was m _ g now s d in (gave (h.says past m.now) head b i.answer, i.adds, i.stands)
   responded past f g was m head (PayloadTooLarge b) now s d = elim d [ ]
 
   polled : (past : List ℕ) (f g : F) (was : Recorded) (m : Moment) (a : Poll (Result (Response (ResponseBody B) X) E)) (now : Recorded) →
       Stands f (Waiting past) → InnerReplies polls is_ext f was m (Ok a) g now → Polled past was m a g now
   polled past f g was m (Ready (Ok r)) now s d = responded past f g was m r.head r.body now s d
-  polled past f g was m (Ready (Err x)) now s d = let i = inner.poll past f was m _ g now s d in (failed (h.says past m.now) x i.answer, i.grew, i.stands)
-  polled past f g was m Pending now s d = let i = inner.poll past f was m _ g now s d in (waited (h.says past m.now) i.answer, i.grew, i.stands)
+  polled past f g was m (Ready (Err x)) now s d = let i = inner.poll past f was m _ g now s d in (failed (h.says past m.now) x i.answer, i.adds, i.stands)
+  polled past f g was m Pending now s d = let i = inner.poll past f was m _ g now s d in (waited (h.says past m.now) i.answer, i.adds, i.stands)
 
   refusal : (a : Poll (Result (Response (ResponseBody B) X) E)) → SaysTooLarge is_ext (Ok a) → Matches Heads BS (Gives large_head plan) a
   refusal (Ready (Ok r)) d = (heads r.head d.head, rw d.body told)
@@ -103,12 +103,12 @@ module _ {H P F B X E D : Type 0} (polls : Polls F (Result (Response B X) E)) (l
   abbrev Steps : Bool → List ℕ → Recorded → Moment → Poll (Result (Response (ResponseBody B) X) E) → Option F → Recorded → Type 0
   Steps large past was m a g now =
       Matches Heads BS ((answers_instead large large_head plan h).says past m.now) a
-      × Grew was now ((answers_instead large large_head plan h).events past m.now)
+      × Adds was now ((answers_instead large large_head plan h).events past m.now)
       × HeldUnless large Stands g (where_after past m.now a)
 
   step : (large : Bool) (past : List ℕ) (f g : Option F) (was : Recorded) (m : Moment) (a : Poll (Result (Response (ResponseBody B) X) E)) (now : Recorded) →
       HeldUnless large Stands f (Waiting past) → RepliesWithin polls is_ext f was m (Ok a) g now → Steps large past was m a g now
-  step true past None None was m a now s d = (refusal a d.0, grew_none was now d.1, tt)
+  step true past None None was m a now s d = (refusal a d.0, adds_none was now d.1, tt)
   step true past None (Some g) was m a now s d = elim d [ ]
   step true past (Some f) g was m a now s d = elim s [ ]
   step false past None g was m a now s d = elim s [ ]
@@ -116,9 +116,9 @@ module _ {H P F B X E D : Type 0} (polls : Polls F (Result (Response B X) E)) (l
   step false past (Some f) (Some g) was m a now s d = polled past f g was m a now s d
 
   left_by : (large : Bool) (w : Where) (f : Option F) (was : Recorded) (m : Moment) (u : Unit) (now : Recorded) →
-      HeldUnless large Stands f w → LeavesIfAny leaves f was m (Ok u) now → Grew was now (left_at (answers_instead large large_head plan h) w m.now)
-  left_by true (Waiting past) None was m u now s d = grew_none was now d.1
-  left_by true Answered None was m u now s d = grew_none was now d.1
+      HeldUnless large Stands f w → LeavesIfAny leaves f was m (Ok u) now → Adds was now (left_at (answers_instead large large_head plan h) w m.now)
+  left_by true (Waiting past) None was m u now s d = adds_none was now d.1
+  left_by true Answered None was m u now s d = adds_none was now d.1
   left_by true w (Some f) was m u now s d = elim s [ ]
   left_by false w None was m u now s d = elim s [ ]
   left_by false w (Some f) was m u now s d = inner.left w f was m u now s d
@@ -133,20 +133,20 @@ module _ {H P F B X E D : Type 0} (polls : Polls F (Result (Response B X) E)) (l
   -- by whether the request was too large
   pub limit_follows : (large : Bool) → FutureFollows (LimitPolls polls is_ext) (LimitLeaves leaves) Heads (LimitStands large Stands) BS (answers_instead large large_head plan h)
   limit_follows large = record {
-    poll = λ past f was m a new now s d. let r = step large past f.inner new.inner was m a now s d in record { answer = r.0; grew = r.1; stands = r.2 };
+    poll = λ past f was m a new now s d. let r = step large past f.inner new.inner was m a now s d in record { answer = r.0; adds = r.1; stands = r.2 };
     left = λ w f was m u now s d. left_by large w f.inner was m u now s d;
     refused = λ w f was m e now s d. refused_by large w f.inner was m e now s d;
   }
 
 -- quiet: to give up a request's body records nothing
 module _ {S B X F : Type 0} (calls : Calls S (Request (Limited B) X) F) (leaves : Leaves B) (Asks : Request (Limited B) X → Type 0) (Serves : S → Type 0) (Stands : ℕ → F → Where → Type 0) (es : List Event)
-    (quiet : (body : B) (was : Recorded) (m : Moment) (u : Unit) (now : Recorded) → leaves body was m (Ok u) now → Grew was now [])
+    (quiet : (body : B) (was : Recorded) (m : Moment) (u : Unit) (now : Recorded) → leaves body was m (Ok u) now → Adds was now [])
     (inner : ServiceFollows calls Asks Serves Stands es) where
   serves_on : (limit : ℕ) (s new : RequestBodyLimit S) → s.limit ≡ limit → new ≡ record s { inner = new.inner } → Serves new.inner → LimitServes limit Serves new
   serves_on limit s new e same k = record { limit_is = ap (λ x. x.limit) same ∙ e; inner = k }
 
   abbrev Given : Bool → ℕ → List Event → RequestBodyLimit S → Moment → ResponseFuture F → Recorded → Recorded → Type 0
-  Given large limit es new m f was now = LimitServes limit Serves new × LimitStands large (Stands m.now) f (Waiting []) × Grew was now es
+  Given large limit es new m f was now = LimitServes limit Serves new × LimitStands large (Stands m.now) f (Waiting []) × Adds was now es
 
   refuses : (limit : ℕ) (s : RequestBodyLimit S) (req : Request B X) (was : Recorded) (m : Moment) (f : ResponseFuture F) (new : RequestBodyLimit S) (now : Recorded) →
       LimitServes limit Serves s → LimitRefuses calls leaves s req was m (Ok f) new now → Given true limit [] new m f was now
@@ -182,10 +182,10 @@ module _ {S B X F : Type 0} (calls : Calls S (Request (Limited B) X) F) (leaves 
   }
 
 module _ {S B X F : Type 0} (calls : Calls S (Request (Limited B) X) F) (leaves : Leaves B) (Serves : S → Type 0) (Any : ℕ → F → Where → Type 0)
-    (quiet : (body : B) (was : Recorded) (m : Moment) (u : Unit) (now : Recorded) → leaves body was m (Ok u) now → Grew was now [])
+    (quiet : (body : B) (was : Recorded) (m : Moment) (u : Unit) (now : Recorded) → leaves body was m (Ok u) now → Adds was now [])
     (inner : ServiceFollows calls (λ req. ⊤) Serves Any []) where
   abbrev Kept : ℕ → RequestBodyLimit S → Recorded → Recorded → Type 0
-  Kept limit new was now = LimitServes limit Serves new × Grew was now []
+  Kept limit new was now = LimitServes limit Serves new × Adds was now []
 
   -- whatever is asked, the service serves on as before
   pub limit_keeps : (limit : ℕ) → ServiceFollows (LimitCalls calls leaves) (λ req. ⊤) (LimitServes limit Serves) (λ t (f : ResponseFuture F) (w : Where). ⊤) []

@@ -1,5 +1,5 @@
 -- Where the values of these layers stand after some polls, and what their histories are.
-use Rattle.std.specs.Prelude.{◌≡◌, ℕ, List, [], ◌++◌, Bool, true, false, Option, Some, None, ⊤}
+use Rattle.std.specs.Prelude.{◌≡◌, ℕ, List, ◌++◌, Bool, true, false, Option, Some, None, ⊤}
 use Rattle.life_core.specs.History.{BodyHistory, FutureHistory, Said, Waits, Gives, Fails, Where, Waiting, Answered}
 use Rattle.life_core.specs.OneChunk.{FullStands}
 use Rattle.life_core.specs.declared.event.Event.{Event}

@@ -40,6 +40,11 @@ not_before_own (x ∷ steps) zero r t h = tt
 not_before_own (x ∷ steps) (suc n) r t h =
     not_before_step (x.request == r) t (x.at, x.act) (own (take n steps) r) (h 0 x (omega arith) refl) (not_before_own steps n r t (λ j y l e. h (suc j) y (omega arith) e))
 
+-- with one more act
+pub not_before_push : (t : ℕ) (before : List Own) (x : Own) → NotBefore t (before ++ x ∷ []) → NotBefore t before × (x.0 ≤ t)
+not_before_push t [] x h = (tt, h.0)
+not_before_push t (y ∷ before) x h = let r = not_before_push t before x h.1 in ((h.0, r.0), r.1)
+
 -- a step of another request leaves the own acts
 own_left : (b : Bool) (x : Own) (acts more : List Own) → more ≡ acts → (if b then x ∷ more else more) ≡ (if b then x ∷ acts else acts)
 own_left true x acts more e = ap (λ l. x ∷ l) e

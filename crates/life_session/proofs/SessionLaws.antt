@@ -1,9 +1,9 @@
 -- A session, step by step: what its type keeps from its begin to its report.
-use Rattle.std.proofs.Common.{◌≡◌, ◌≢◌, ℕ, zero, suc, ◌+◌, ◌<◌, ◌≤◌, List, [], ◌∷◌, ◌++◌, length, take, drop, Bool, true, false, cond, Some, Ok, get_or, inl, inr, refl, sym, ap, ◌∙◌, subst, arith, add-one, take_all}
+use Rattle.std.proofs.Common.{◌≡◌, ◌≢◌, ℕ, zero, suc, ◌+◌, ◌<◌, ◌≤◌, List, [], ◌∷◌, length, take, drop, Bool, true, false, cond, Some, Ok, get_or, inl, inr, refl, sym, ap, ◌∙◌, subst, arith, add-one, take_all}
 use Rattle.std.proofs.lemmas.Bool.{eq-eqb, ne_eqb}
 use Rattle.std.proofs.lemmas.Bool.Decides.{eqb_tells}
-use Rattle.std.proofs.lemmas.List.{length-take-le, get_or-set_same, get_or-set_other}
-use Rattle.std.proofs.lemmas.List.Sums.{count_by-le-length, sum_by-cons, count_by_more_yes, count_by_more_no}
+use Rattle.std.proofs.lemmas.List.{length-take-le}
+use Rattle.std.proofs.lemmas.List.Sums.{count_by-le-length, sum_by-cons}
 use Rattle.std.proofs.lemmas.Option.{slice_get-get_or, slice_get_within}
 use Rattle.std.proofs.lemmas.Grind.{get_or_default_zero}
 use Rattle.std.proofs.Math.ListN.{set}
@@ -15,8 +15,8 @@ use Rattle.life_script.specs.ToldView.{ToldView}
 use Rattle.life_script.specs.Valid.{IsValid}
 use Rattle.life_script.specs.declared.scenario.CallItem.TheVariants.{Serve}
 use Rattle.life_script.specs.declared.scenario.Step.{Step}
-use Rattle.life_session.specs.Acts.{Counts, NotBefore, Own, own, steps_of}
-use Rattle.life_session.specs.Exchange.{ExchangeAt, HasRoom, IsFresh, LiveAt, MayGoOn}
+use Rattle.life_session.specs.Acts.{Counts, NotBefore, own, steps_of}
+use Rattle.life_session.specs.Exchange.{ExchangeAt, HasRoom, IsFresh, LiveAt}
 use Rattle.life_session.specs.Report.{stories}
 use Rattle.life_session.specs.Session.{IsSession, May, MovesOn, RunsOn, Serves, SessionView, Stands, Tells, acts_done, turns_left}
 use Rattle.life_session.specs.Table.{Meaning, story_by, tables}

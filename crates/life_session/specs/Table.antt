@@ -1,11 +1,11 @@
 -- Tables over the acts of a request, and what it is to keep one.
-use Rattle.std.specs.Prelude.{◌≡◌, ℕ, List, [], ◌∷◌, ◌++◌, Bool, Option, Some, None, Result, Ok, Err}
+use Rattle.std.specs.Prelude.{◌≡◌, ℕ, List, [], ◌∷◌, ◌++◌, Bool, Option, Some, None, Result, Ok, Err, IfOk, IfErr}
 use Rattle.http_body.specs.Frame.{data_frame, trailers_frame}
 use Rattle.http_body.specs.declared.frame.Frame.{Frame}
 use Rattle.http_header.specs.FieldValue.{FieldValue}
 use Rattle.http_header.specs.HeaderMap.{Entries}
 use Rattle.life_core.specs.Fields.{fields}
-use Rattle.life_core.specs.History.{Grew}
+use Rattle.life_core.specs.History.{Adds, Grew, NumbersStay}
 use Rattle.life_core.specs.Meaning.{Polls, Leaves, Frames, Calls}
 use Rattle.life_core.specs.Moment.{Moment}
 use Rattle.life_core.specs.Recorded.{Recorded}
@@ -111,12 +111,14 @@ pub record Polled {K S R F B X : Type 0} (ends : B → Bool) (at : Places K S R 
   pub said : PollSaid ends a ((table k).answer acts (t, act.Poll))
   pub left : PollLeft at k (acts ++ (t, act.Poll) ∷ []) a new
   pub grew : Grew was now ((table k).events acts (t, act.Poll))
+  pub numbers : NumbersStay was now
 
 pub record Framed {K S R F B : Type 0} (ends : B → Bool) (at : Places K S R F B) (table : K → Table) (k : K) (acts : List Own) (t : ℕ) (was : Recorded)
     (a : Poll (Option (Result (Frame (List ℕ)) (BodyError (List ℕ))))) (new : B) (now : Recorded) : Type 0 where
   pub said : FrameSaid a (ends new) ((table k).answer acts (t, act.Poll))
   pub left : at.streaming k (acts ++ (t, act.Poll) ∷ []) new
   pub grew : Grew was now ((table k).events acts (t, act.Poll))
+  pub numbers : NumbersStay was now
 
 module _ {K S R F B : Type 0} (at : Places K S R F B) (table : K → Table) where
   -- an early drop, also where it comes at the end
@@ -125,12 +127,14 @@ module _ {K S R F B : Type 0} (at : Places K S R F B) (table : K → Table) wher
     pub left : at.over k (acts ++ (t, act.Drop) ∷ [])
     pub grew : Grew was now ((table k).events acts (t, act.Drop))
     pub ended : Grew was now ((table k).at_end acts t)
+    pub numbers : NumbersStay was now
 
   -- a call at time t gives a future that stands with it
   pub record CalledAt (k : K) (acts : List Own) (t : ℕ) (was : Recorded) (f : F) (now : Recorded) : Type 0 where
     pub said : (table k).answer acts (t, act.Call) ≡ ans.Called
     pub left : at.waiting k (acts ++ (t, act.Call) ∷ []) f
     pub grew : Grew was now ((table k).events acts (t, act.Call))
+    pub numbers : NumbersStay was now
 
   -- the acts of which nothing is told
   pub record Idles : Type 0 where
@@ -149,22 +153,24 @@ module _ {K S R F B : Type 0} (at : Places K S R F B) (table : K → Table) wher
 module _ {K S R F B X : Type 0} (calls : Calls S R F) (polls : Polls F (Result (Response B X) (List ℕ))) (leaves : Leaves F)
     (frames : Frames B (List ℕ) (BodyError (List ℕ))) (body_leaves : Leaves B) (ends : B → Bool) (at : Places K S R F B) (table : K → Table) where
   pub record KeepsTable : Type 0 where
-    pub called : (k : K) (acts : List Own) (s : S) (req : R) (was : Recorded) (m : Moment) (f : F) (new : S) (now : Recorded) →
-        at.asks k req → at.fresh k acts → at.ready k was → at.serves k s → calls s req was m (Ok f) new now → CalledAt at table k acts m.now was f now
+    pub called : (k : K) (acts : List Own) (s : S) (req : R) (was : Recorded) (m : Moment) (made : Result F NoMemory) (new : S) (now : Recorded) →
+        at.asks k req → at.fresh k acts → at.ready k was → at.serves k s → calls s req was m made new now → IfOk made (λ f. CalledAt at table k acts m.now was f now)
     pub kept : (k : K) (s : S) (req : R) (was : Recorded) (m : Moment) (made : Result F NoMemory) (new : S) (now : Recorded) →
         at.serves k s → calls s req was m made new now → at.serves k new
-    pub polled : (k : K) (acts : List Own) (f : F) (was : Recorded) (m : Moment) (a : Poll (Result (Response B X) (List ℕ))) (new : F) (now : Recorded) →
-        at.waiting k acts f → polls f was m (Ok a) new now → Polled ends at table k acts m.now was a new now
-    pub future_left : (k : K) (acts : List Own) (f : F) (was : Recorded) (m : Moment) (now : Recorded) →
-        at.waiting k acts f → leaves f was m (Ok tt) now → Dropped at table k acts m.now was now
-    pub future_refused : (k : K) (acts : List Own) (f : F) (was : Recorded) (m : Moment) (e : NoMemory) (now : Recorded) →
-        at.waiting k acts f → leaves f was m (Err e) now → was.spare ≡ 0
-    pub answered_left : (k : K) (acts : List Own) (f : F) (was : Recorded) (m : Moment) (now : Recorded) →
-        at.answered k acts f → leaves f was m (Ok tt) now → Grew was now []
-    pub framed : (k : K) (acts : List Own) (b : B) (was : Recorded) (m : Moment) (a : Poll (Option (Result (Frame (List ℕ)) (BodyError (List ℕ))))) (new : B) (now : Recorded) →
-        NotBefore m.now acts → at.streaming k acts b → frames b was m (Ok a) new now → Framed ends at table k acts m.now was a new now
-    pub body_left : (k : K) (acts : List Own) (b : B) (was : Recorded) (m : Moment) (now : Recorded) →
-        at.streaming k acts b → body_leaves b was m (Ok tt) now → Dropped at table k acts m.now was now
-    pub body_refused : (k : K) (acts : List Own) (b : B) (was : Recorded) (m : Moment) (e : NoMemory) (now : Recorded) →
-        at.streaming k acts b → body_leaves b was m (Err e) now → was.spare ≡ 0
+    pub polled : (k : K) (acts : List Own) (f : F) (was : Recorded) (m : Moment) (made : Result (Poll (Result (Response B X) (List ℕ))) NoMemory) (new : F) (now : Recorded) →
+        at.waiting k acts f → polls f was m made new now → IfOk made (λ a. Polled ends at table k acts m.now was a new now)
+    pub future_left : (k : K) (acts : List Own) (f : F) (was : Recorded) (m : Moment) (made : Result Unit NoMemory) (now : Recorded) →
+        at.waiting k acts f → leaves f was m made now → IfOk made (λ u. Dropped at table k acts m.now was now)
+    pub future_refused : (k : K) (acts : List Own) (f : F) (was : Recorded) (m : Moment) (made : Result Unit NoMemory) (now : Recorded) →
+        at.waiting k acts f → leaves f was m made now → IfErr made (λ e. was.spare ≡ 0)
+    pub answered_left : (k : K) (acts : List Own) (f : F) (was : Recorded) (m : Moment) (made : Result Unit NoMemory) (now : Recorded) →
+        at.answered k acts f → leaves f was m made now → IfOk made (λ u. Adds was now [])
+    pub answered_refused : (k : K) (acts : List Own) (f : F) (was : Recorded) (m : Moment) (made : Result Unit NoMemory) (now : Recorded) →
+        at.answered k acts f → leaves f was m made now → IfErr made (λ e. ⊥)
+    pub framed : (k : K) (acts : List Own) (b : B) (was : Recorded) (m : Moment) (made : Result (Poll (Option (Result (Frame (List ℕ)) (BodyError (List ℕ))))) NoMemory) (new : B) (now : Recorded) →
+        NotBefore m.now acts → at.streaming k acts b → frames b was m made new now → IfOk made (λ a. Framed ends at table k acts m.now was a new now)
+    pub body_left : (k : K) (acts : List Own) (b : B) (was : Recorded) (m : Moment) (made : Result Unit NoMemory) (now : Recorded) →
+        at.streaming k acts b → body_leaves b was m made now → IfOk made (λ u. Dropped at table k acts m.now was now)
+    pub body_refused : (k : K) (acts : List Own) (b : B) (was : Recorded) (m : Moment) (made : Result Unit NoMemory) (now : Recorded) →
+        at.streaming k acts b → body_leaves b was m made now → IfErr made (λ e. was.spare ≡ 0)
     pub idles : Idles at table

@@ -11,5 +11,5 @@ pub use exchange::Exchange;
 pub use exchange::live::{Live, act_on, finish};
 pub use exchange::seeing::seen_in;
 pub use report::{Report, report_text};
-pub use session::{Session, share};
+pub use session::{Session, drive, share};
 pub use table::Driven;

@@ -177,3 +177,27 @@ impl<D: Driven> Session<D> {
         Report { told, steps, end }
     }
 }
+
+/// Drives the requests of a scenario through a stack that keeps a table, step by step, and tells what each step
+/// answered and recorded, by the table. Each request is told as if it were alone. A scenario that is not valid is
+/// refused before any step is made; the one other error is want of memory. After an error nothing is live.
+pub fn drive<D: Driven>(
+    alloc: Global,
+    limits: &D::Limits,
+    scenario: &Scenario,
+) -> Result<Report, DriveError>
+    ensures told { IfOk result (λ r. r ≡ report_by (tables D.meaning limits.now) scenario.now) }
+    ensures valid { IsOk result → IsValid scenario.now }
+    ensures refused { IfErr result (λ e. IsRefused scenario.now e) }
+    ensures exact { IfErr (verdict scenario.now) (λ e. result ≡ Err e) }
+    ensures complete { IsValid scenario.now → IfErr result (λ e. e ≡ OutOfMemory) }
+{
+    let mut session = Session::<D>::begin(alloc, limits, scenario)?;
+    while !session.done() {
+        session = match session.step() {
+            Ok(session) => session,
+            Err(_) => return Err(DriveError::NoMemory),
+        };
+    }
+    Ok(session.finish())
+}

@@ -1,6 +1,6 @@
 //! What it is to keep a table.
 ghost use Rattle.std.specs.Prelude.{◌≡◌, ℕ, List, [], Bool, IfOk, IfErr, slice_get, Some};
-ghost use Rattle.life_core.specs.History.{Grew};
+ghost use Rattle.life_core.specs.History.{Adds};
 ghost use Rattle.life_core.specs.Moment.{SameContext};
 ghost use Rattle.life_core.specs.Poll.{IfReady, OnPending};
 ghost use Rattle.life_script.specs.ScriptView.{ScriptView};
@@ -79,8 +79,9 @@ pub trait Driven {
     fn leave_future<L: Recorder>(future: Self::Future, cx: &mut Cx<'_, L>) -> Got<()>
         requires { meaning.future_may future }
         ensures waiting { (k : Key) (acts : List Own) → meaning.places.waiting k acts future → IfOk result (λ _. Dropped meaning.places meaning.table k acts cx.old.now (L.recorded cx.old.rec.now) (L.recorded cx.new.rec.now)) }
-        ensures answered { (k : Key) (acts : List Own) → meaning.places.answered k acts future → IfOk result (λ _. Grew (L.recorded cx.old.rec.now) (L.recorded cx.new.rec.now) []) }
+        ensures answered { (k : Key) (acts : List Own) → meaning.places.answered k acts future → IfOk result (λ _. Adds (L.recorded cx.old.rec.now) (L.recorded cx.new.rec.now) []) }
         ensures refused { (k : Key) (acts : List Own) → meaning.places.waiting k acts future → IfErr result (λ _. (L.recorded cx.old.rec.now).spare ≡ 0) }
+        ensures answered_refused { (k : Key) (acts : List Own) → meaning.places.answered k acts future → IfErr result (λ _. ⊥) }
         ensures context { SameContext L.place cx.old cx.new };
 
     /// Polls a body, at a time that is not before its acts.

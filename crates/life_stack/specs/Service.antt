@@ -1,2 +1,4 @@
+pub mod Caught
 pub mod Handing
 pub mod Script
+pub mod Stands

@@ -16,5 +16,5 @@ pub use stack::driving::drive;
 pub use stack::keeping::{EightLayers, Session};
 pub use stack::{
     DriveBody, DriveFuture, DriveStack, abandon_body, abandon_future, call_stack, drive_stack,
-    poll_body, poll_future, script_request,
+    poll_body, poll_future, request_of, script_request,
 };

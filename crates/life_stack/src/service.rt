@@ -12,34 +12,50 @@ use crate::service::body::ScriptBody;
 use crate::service::ext::Ext;
 use crate::service::future::ScriptFuture;
 use life_core::{
-    Cx, Fault, Future, Got, Limited, List, PanicText, Poll, Recorder, Request, Response, Service,
-    Text, Twin, give_up_request,
+    Cx, Fault, Future, Got, Limited, List, NoMemory, PanicText, Poll, Recorder, Request, Response,
+    Service, Text, Twin, give_up_request,
 };
 use life_head::request_id::Number;
 use life_script::{CallItem, PollItems, Script, Scripts};
 use std::alloc::Global;
+use std::marker::Model;
 use std::rc::Rc;
 
 /// Serves each request by the script of the number in its extension, and one without such a script as
-/// by a script without items.
+/// by a script without items. Its twins share the scripts.
 #[derive(Drop)]
 pub struct ScriptService {
     scripts: Rc<Scripts>,
 }
 
-impl ScriptService {
-    ghost use Rattle.life_stack.specs.Service.Script.{IsServiceOf};
+impl Model for ScriptService {
+    ghost use Rattle.life_stack.specs.Service.Script.{SharedScripts};
 
+    ghost Value = { SharedScripts };
+
+    ghost view = { λ s. s.scripts.value.items };
+}
+
+impl Twin for ScriptService {
+    fn twin(&self, _alloc: Global) -> Got<ScriptService> {
+        match self.scripts.clone() {
+            Ok(scripts) => Ok(ScriptService { scripts }),
+            Err(_) => Err(NoMemory),
+        }
+    }
+}
+
+impl ScriptService {
     /// The service of these scripts.
     pub fn new(scripts: Rc<Scripts>) -> ScriptService
-        ensures { IsServiceOf scripts.value.items result }
+        ensures { result ≡ scripts.value.items }
     {
         ScriptService { scripts }
     }
 
     /// The script of a number, or none.
     fn find(&self, number: Option<Number>) -> Option<&Script>
-        ensures { option_copied result ≡ script_for self.now.scripts.value.items number }
+        ensures { option_copied result ≡ script_for self.now number }
     {
         match number {
             Some(number) => self.scripts.get(number.0),

@@ -1,18 +1,17 @@
 //! The driven stack, and what each of its calls gives by the table of the story.
 ghost use Rattle.std.specs.Prelude.{◌≡◌, ◌<◌, ℕ, List, [], Some, length, slice_get, IfOk, IfErr};
-ghost use Rattle.life_core.specs.History.{Grew};
+ghost use Rattle.life_core.specs.History.{Adds};
 ghost use Rattle.life_core.specs.Moment.{SameContext};
 ghost use Rattle.life_core.specs.Poll.{IfReady, OnPending};
 ghost use Rattle.life_script.specs.ScriptView.{ScriptView};
 ghost use Rattle.life_stack.specs.Stack.Driven.{BodyMay, FutureLive, FutureMay, StackMay, StackStands, drive_ends};
 ghost use Rattle.life_session.specs.Acts.{NotBefore, Own};
-ghost use Rattle.life_session.specs.Table.{CalledAt, Framed, Polled};
-ghost use Rattle.life_stack.specs.Stack.StandsAt.{BodyAt, FreshAt, FutureAnswered, FutureAt};
+ghost use Rattle.life_session.specs.Table.{CalledAt, Dropped, Framed, Polled};
+ghost use Rattle.life_stack.specs.Stack.Course.{Key};
 ghost use Rattle.life_stack.specs.Stack.Keeping.{drive_places, drive_table};
 ghost use Rattle.life_stack.specs.Service.Script.{IsRequestOf};
 ghost use Rattle.life_stack.specs.Table.Request.{Numbered, numbered};
 ghost use Rattle.life_script.specs.Valid.{IsValid, ScriptFits};
-ghost use Rattle.life_stack.specs.Table.Story.{drops};
 ghost use Rattle.life_script.specs.declared.scenario.Limits.{Limits as LimitsView};
 
 pub mod driving;
@@ -101,11 +100,7 @@ pub fn drive_stack(alloc: Global, limits: &Limits, scenario: &Scenario) -> Got<D
 
 /// The request of a script and its number: GET `/` in HTTP/1.1, with the script's headers in order and its
 /// body. The one error is want of memory.
-pub(crate) fn request_of(
-    alloc: Global,
-    script: &Script,
-    number: u64,
-) -> Got<Request<ScriptBody, Ext>>
+pub fn request_of(alloc: Global, script: &Script, number: u64) -> Got<Request<ScriptBody, Ext>>
     ensures { IfOk result (IsRequestOf script.now number) }
 {
     let headers = script.headers.to_map(alloc)?;
@@ -137,9 +132,9 @@ pub fn call_stack<L: Recorder>(
     cx: &mut Cx<'_, L>,
 ) -> Got<DriveFuture<L>>
     requires { StackMay stack.old }
-    ensures called { (limits : LimitsView) (script : Numbered) (acts : List Own) → IsRequestOf script.script script.number request → FreshAt limits script acts → StackStands limits script stack.old
-        → IfOk result (λ f. CalledAt drive_places drive_table (limits, script) acts cx.old.now (L.recorded cx.old.rec.now) f (L.recorded cx.new.rec.now)) }
-    ensures kept { (limits : LimitsView) (script : Numbered) → StackStands limits script stack.old → StackStands limits script stack.new }
+    ensures called { (k : Key) (acts : List Own) → drive_places.asks k request → drive_places.fresh k acts → drive_places.serves k stack.old
+        → IfOk result (λ f. CalledAt drive_places drive_table k acts cx.old.now (L.recorded cx.old.rec.now) f (L.recorded cx.new.rec.now)) }
+    ensures kept { (k : Key) → drive_places.serves k stack.old → drive_places.serves k stack.new }
     ensures may { StackMay stack.new }
     ensures live { IfOk result FutureLive }
     ensures future_may { IfOk result FutureMay }
@@ -158,8 +153,8 @@ pub fn poll_future<L: Recorder>(
 ) -> Got<Poll<Result<Response<DriveBody, Ext>, Text>>>
     requires live { FutureLive future.old }
     requires may { FutureMay future.old }
-    ensures polled { (limits : LimitsView) (script : Numbered) (acts : List Own) → FutureAt limits script acts future.old
-        → IfOk result (λ answer. Polled drive_ends drive_places drive_table (limits, script) acts cx.old.now (L.recorded cx.old.rec.now) answer future.new (L.recorded cx.new.rec.now)) }
+    ensures polled { (k : Key) (acts : List Own) → drive_places.waiting k acts future.old
+        → IfOk result (λ answer. Polled drive_ends drive_places drive_table k acts cx.old.now (L.recorded cx.old.rec.now) answer future.new (L.recorded cx.new.rec.now)) }
     ensures live { IfOk result (λ answer. OnPending answer (FutureLive future.new)) }
     ensures body { IfOk result (λ answer. IfReady answer (λ answer. IfOk answer (λ response. BodyMay response.body))) }
     ensures may { FutureMay future.new }
@@ -170,18 +165,17 @@ pub fn poll_future<L: Recorder>(
     future.poll(cx)
 }
 
-/// Gives up a future: its early drop is recorded where it waits, and nothing where it answered. The one
-/// error is want of memory, which comes only where the recorder had no room.
+/// Gives up a future: its early drop is recorded where it waits, as the table tells, and nothing where it
+/// answered. The one error is want of memory, which comes only where it waits and the recorder had no room.
 pub fn abandon_future<L: Recorder>(future: DriveFuture<L>, cx: &mut Cx<'_, L>) -> Got<()>
     requires { FutureMay future }
-    ensures waiting { (limits : LimitsView) (script : Numbered) (acts : List Own) → FutureAt limits script acts future
-        → IfOk result (λ done. Grew (L.recorded cx.old.rec.now) (L.recorded cx.new.rec.now) (drops limits script acts cx.old.now)) }
-    ensures answered { (limits : LimitsView) (script : Numbered) (acts : List Own) → FutureAnswered limits script acts future
-        → IfOk result (λ done. Grew (L.recorded cx.old.rec.now) (L.recorded cx.new.rec.now) []) }
-    ensures refused { (limits : LimitsView) (script : Numbered) (acts : List Own) → FutureAt limits script acts future
+    ensures waiting { (k : Key) (acts : List Own) → drive_places.waiting k acts future
+        → IfOk result (λ done. Dropped drive_places drive_table k acts cx.old.now (L.recorded cx.old.rec.now) (L.recorded cx.new.rec.now)) }
+    ensures answered { (k : Key) (acts : List Own) → drive_places.answered k acts future
+        → IfOk result (λ done. Adds (L.recorded cx.old.rec.now) (L.recorded cx.new.rec.now) []) }
+    ensures refused { (k : Key) (acts : List Own) → drive_places.waiting k acts future
         → IfErr result (λ error. (L.recorded cx.old.rec.now).spare ≡ 0) }
-    ensures answered_refused { (limits : LimitsView) (script : Numbered) (acts : List Own) → FutureAnswered limits script acts future
-        → IfErr result (λ error. (L.recorded cx.old.rec.now).spare ≡ 0) }
+    ensures answered_refused { (k : Key) (acts : List Own) → drive_places.answered k acts future → IfErr result (λ error. ⊥) }
     ensures context { SameContext L.place cx.old cx.new }
 {
     // Names a type inside of the stack's body, which the proof of this call has to see.
@@ -196,21 +190,21 @@ pub fn poll_body<L: Recorder>(
     cx: &mut Cx<'_, L>,
 ) -> Got<Poll<Option<Result<Frame<Bytes>, BodyError<Text>>>>>
     requires { BodyMay body.old }
-    ensures polled { (limits : LimitsView) (script : Numbered) (acts : List Own) → NotBefore cx.old.now acts → BodyAt limits script acts body.old
-        → IfOk result (λ answer. Framed drive_ends drive_places drive_table (limits, script) acts cx.old.now (L.recorded cx.old.rec.now) answer body.new (L.recorded cx.new.rec.now)) }
+    ensures polled { (k : Key) (acts : List Own) → NotBefore cx.old.now acts → drive_places.streaming k acts body.old
+        → IfOk result (λ answer. Framed drive_ends drive_places drive_table k acts cx.old.now (L.recorded cx.old.rec.now) answer body.new (L.recorded cx.new.rec.now)) }
     ensures may { BodyMay body.new }
     ensures context { SameContext L.place cx.old cx.new }
 {
     body.poll_frame(cx)
 }
 
-/// Gives up a body: its early drop is recorded where no ending answer came. The one error is want of
-/// memory, which comes only where the recorder had no room.
+/// Gives up a body: its early drop is recorded as the table tells, where no ending answer came. The one error
+/// is want of memory, which comes only where the recorder had no room.
 pub fn abandon_body<L: Recorder>(body: DriveBody, cx: &mut Cx<'_, L>) -> Got<()>
     requires { BodyMay body }
-    ensures left { (limits : LimitsView) (script : Numbered) (acts : List Own) → BodyAt limits script acts body
-        → IfOk result (λ done. Grew (L.recorded cx.old.rec.now) (L.recorded cx.new.rec.now) (drops limits script acts cx.old.now)) }
-    ensures refused { (limits : LimitsView) (script : Numbered) (acts : List Own) → BodyAt limits script acts body
+    ensures left { (k : Key) (acts : List Own) → drive_places.streaming k acts body
+        → IfOk result (λ done. Dropped drive_places drive_table k acts cx.old.now (L.recorded cx.old.rec.now) (L.recorded cx.new.rec.now)) }
+    ensures refused { (k : Key) (acts : List Own) → drive_places.streaming k acts body
         → IfErr result (λ error. (L.recorded cx.old.rec.now).spare ≡ 0) }
     ensures context { SameContext L.place cx.old cx.new }
 {

@@ -18,6 +18,8 @@ mod reports;
 #[cfg(test)]
 mod runs;
 #[cfg(test)]
+mod second;
+#[cfg(test)]
 mod sessions;
 #[cfg(test)]
 mod stack;

@@ -13,8 +13,8 @@ use Rattle.life_core.specs.declared.body.BodyError.TheVariants.{Elapsed, LengthL
 use Rattle.life_core.specs.declared.poll.Poll.{Poll}
 use Rattle.life_core.specs.declared.poll.Poll.TheVariants.{Ready, Pending}
 use Rattle.life_core.specs.declared.clock.Timer.{Timer}
-use Rattle.life_core.specs.History.{Latest, Grew, BodyHistory, BodyFollows, FrameSteps, FutureHistory, FutureFollows, PollSteps, Said, Waits, Gives, Fails, Where, Waiting, Answered, Matches, left_at, said_under, ServiceFollows}
-use Rattle.life_core.proofs.Growth.{grew_none}
+use Rattle.life_core.specs.History.{Latest, Adds, BodyHistory, BodyFollows, FrameSteps, FutureHistory, FutureFollows, PollSteps, Said, Waits, Gives, Fails, Where, Waiting, Answered, Matches, left_at, said_under, ServiceFollows}
+use Rattle.life_core.proofs.Growth.{adds_none}
 use Rattle.life_core.proofs.Due.{undue_before}
 use Rattle.life_time.specs.declared.timeout.deadline_body.DeadlineBody.{DeadlineBody}
 use Rattle.life_time.specs.declared.timeout.deadline_service.ResponseBodyDeadlineFuture.{ResponseBodyDeadlineFuture}
@@ -58,17 +58,17 @@ module _ {H P F B X E : Type 0} (polls : Polls F (Result (Response B X) E)) (lea
       DeadlineStands len Stands f (Waiting past) → DeadlinePolls polls f was m (Ok a) new now → PollSteps Heads (DeadlineStands len Stands) BS (deadline_history h) past was m.now a new now
   step past f was m (Ready (Ok r)) new now s d = let i = inner.poll past f.inner was m _ new.inner now s.inner d.inner in record {
     answer = gave m.now (h.says past m.now) r (d.timer ∙ ap (λ l. record { start = m.now; length = l }) s.timeout_is) i.answer;
-    grew = i.grew;
+    adds = i.adds;
     stands = kept Answered f new s.timeout_is d.same i.stands;
   }
   step past f was m (Ready (Err x)) new now s d = let i = inner.poll past f.inner was m _ new.inner now s.inner d.inner in record {
     answer = failed m.now (h.says past m.now) x i.answer;
-    grew = i.grew;
+    adds = i.adds;
     stands = kept Answered f new s.timeout_is d.same i.stands;
   }
   step past f was m Pending new now s d = let i = inner.poll past f.inner was m _ new.inner now s.inner d.inner in record {
     answer = waited m.now (h.says past m.now) i.answer;
-    grew = i.grew;
+    adds = i.adds;
     stands = kept (Waiting (m.now ∷ past)) f new s.timeout_is d.same i.stands;
   }
 
@@ -93,18 +93,18 @@ module _ {P B D E : Type 0} (frames : Frames B D E) (leaves : Leaves B) (ends : 
       due p.0 len m.now ≡ true → Here p b past → ElapsedFrames b was (Ok a) new now → FrameSteps Here (deadline_body_history len h p) p past was m.now a new now
   on_due p past b was m a new now e s d = record {
     answer = rw e (cc d.answer_is);
-    grew = rw e (grew_none was now d.unrecorded);
+    adds = rw e (adds_none was now d.unrecorded);
     stands = record { timer_is = ap (λ x. x.timer) d.same ∙ s.timer_is; inner = rw e (rw d.same s.inner) };
   }
 
   polled : (p : P) (past : List ℕ) (b : B) (was : Recorded) (m : Moment) (a : Poll (Option (Result (Frame D) (BodyError E)))) (new : B) (now : Recorded) → Latest m.now past →
-      Stands p b past → WrapsFaults frames b was m (Ok a) new now → (a ≡ wrapped ((h p).frame past m.now)) × Grew was now ((h p).events past m.now) × Stands p new (m.now ∷ past)
-  polled p past b was m Pending new now l s f = let i = inner.frame p past b was m _ new now l s f in (ap wrapped i.answer, i.grew, i.stands)
-  polled p past b was m (Ready None) new now l s f = let i = inner.frame p past b was m _ new now l s f in (ap wrapped i.answer, i.grew, i.stands)
-  polled p past b was m (Ready (Some (Ok x))) new now l s f = let i = inner.frame p past b was m _ new now l s f in (ap wrapped i.answer, i.grew, i.stands)
+      Stands p b past → WrapsFaults frames b was m (Ok a) new now → (a ≡ wrapped ((h p).frame past m.now)) × Adds was now ((h p).events past m.now) × Stands p new (m.now ∷ past)
+  polled p past b was m Pending new now l s f = let i = inner.frame p past b was m _ new now l s f in (ap wrapped i.answer, i.adds, i.stands)
+  polled p past b was m (Ready None) new now l s f = let i = inner.frame p past b was m _ new now l s f in (ap wrapped i.answer, i.adds, i.stands)
+  polled p past b was m (Ready (Some (Ok x))) new now l s f = let i = inner.frame p past b was m _ new now l s f in (ap wrapped i.answer, i.adds, i.stands)
   polled p past b was m (Ready (Some (Err Elapsed))) new now l s f = elim f [ ]
   polled p past b was m (Ready (Some (Err LengthLimit))) new now l s f = elim f [ ]
-  polled p past b was m (Ready (Some (Err (Inner e)))) new now l s f = let i = inner.frame p past b was m _ new now l s f in (ap wrapped i.answer, i.grew, i.stands)
+  polled p past b was m (Ready (Some (Err (Inner e)))) new now l s f = let i = inner.frame p past b was m _ new now l s f in (ap wrapped i.answer, i.adds, i.stands)
 
   in_time : (p : ℕ × P) (past : List ℕ) (b : DeadlineBody B) (was : Recorded) (m : Moment) (a : Poll (Option (Result (Frame D) (BodyError E)))) (new : DeadlineBody B) (now : Recorded) →
       Latest m.now past → due p.0 len m.now ≡ false → Here p b past → InTimeFrames frames b was m (Ok a) new now → FrameSteps Here (deadline_body_history len h p) p past was m.now a new now
@@ -112,7 +112,7 @@ module _ {P B D E : Type 0} (frames : Frames B D E) (leaves : Leaves B) (ends : 
       let same = undue_all p.0 len m.now past l e in
       let i = polled p.1 past b.body was m a new.body now l (subst (λ ps. Stands p.1 b.body ps) same s.inner) d.inner in record {
         answer = rw e i.0;
-        grew = rw e i.1;
+        adds = rw e i.1;
         stands = record { timer_is = ap (λ x. x.timer) d.same ∙ s.timer_is; inner = rw (e, same) i.2 };
       }
 

@@ -13,8 +13,8 @@ use Rattle.life_core.specs.declared.poll.Poll.{Poll}
 use Rattle.life_core.specs.declared.poll.Poll.TheVariants.{Ready, Pending}
 use Rattle.life_core.specs.declared.recorder.NoMemory.{NoMemory}
 use Rattle.life_core.specs.declared.clock.Timer.{Timer}
-use Rattle.life_core.specs.History.{Grew, FutureHistory, FutureFollows, Gives, Where, Waiting, Answered, Matches, where_after, left_at, ServiceFollows}
-use Rattle.life_core.proofs.Growth.{grew_none}
+use Rattle.life_core.specs.History.{Adds, FutureHistory, FutureFollows, Gives, Where, Waiting, Answered, Matches, where_after, left_at, ServiceFollows}
+use Rattle.life_core.proofs.Growth.{adds_none}
 use Rattle.life_time.specs.declared.timeout.service.ResponseFuture.{ResponseFuture}
 use Rattle.life_time.specs.Timeout.{TimeoutCalls, TimeoutPolls, TimeoutLeaves, DuePolls, InnerPolls}
 use Rattle.life_time.specs.Stands.{Held, TimeoutStands, TimeoutServes, timeout_history}
@@ -31,10 +31,10 @@ module _ {H P F B X E : Type 0} (polls : Polls F (Result (Response B X) E)) (lea
   abbrev Steps : Bool → List ℕ → Recorded → Moment → Poll (Result (Response B X) E) → ResponseFuture F → Recorded → Type 0
   Steps b past was m a new now =
       Matches Heads BodyStands (if b then Gives late p else h.says past m.now) a
-      × Grew was now (if b then h.left past m.now else h.events past m.now)
+      × Adds was now (if b then h.left past m.now else h.events past m.now)
       × TimeoutStands timer status Stands new (where_after past m.now a)
 
-  left_any : (past : List ℕ) (f : Option F) (was : Recorded) (m : Moment) (u : Unit) (now : Recorded) → Held Stands f (Waiting past) → LeavesIfAny leaves f was m (Ok u) now → Grew was now (h.left past m.now)
+  left_any : (past : List ℕ) (f : Option F) (was : Recorded) (m : Moment) (u : Unit) (now : Recorded) → Held Stands f (Waiting past) → LeavesIfAny leaves f was m (Ok u) now → Adds was now (h.left past m.now)
   left_any past None was m u now s g = elim s [ ]
   left_any past (Some f) was m u now s g = inner.left (Waiting past) f was m u now s g
 
@@ -50,10 +50,10 @@ module _ {H P F B X E : Type 0} (polls : Polls F (Result (Response B X) E)) (lea
 
   polled : (past : List ℕ) (f g : Option F) (was : Recorded) (m : Moment) (a : Poll (Result (Response B X) E)) (now : Recorded) →
       Held Stands f (Waiting past) → PollsWithin polls f was m (Ok a) g now →
-      Matches Heads BodyStands (h.says past m.now) a × Grew was now (h.events past m.now) × Held Stands g (where_after past m.now a)
+      Matches Heads BodyStands (h.says past m.now) a × Adds was now (h.events past m.now) × Held Stands g (where_after past m.now a)
   polled past None g was m a now s d = elim s [ ]
   polled past (Some f) None was m a now s d = elim d [ ]
-  polled past (Some f) (Some g) was m a now s d = let r = inner.poll past f was m a g now s d in (r.answer, r.grew, r.stands)
+  polled past (Some f) (Some g) was m a now s d = let r = inner.poll past f was m a g now s d in (r.answer, r.adds, r.stands)
 
   in_time : (past : List ℕ) (f : ResponseFuture F) (was : Recorded) (m : Moment) (a : Poll (Result (Response B X) E)) (new : ResponseFuture F) (now : Recorded) →
       TimeoutStands timer status Stands f (Waiting past) → InnerPolls polls f was m (Ok a) new now → Steps false past was m a new now
@@ -68,9 +68,9 @@ module _ {H P F B X E : Type 0} (polls : Polls F (Result (Response B X) E)) (lea
   by_test true past f was m a new now e s d = on_due past f was m a new now s (d.on_due e)
   by_test false past f was m a new now e s d = in_time past f was m a new now s (d.in_time e)
 
-  left_held : (w : Where) (f : Option F) (was : Recorded) (m : Moment) (u : Unit) (now : Recorded) → Held Stands f w → LeavesIfAny leaves f was m (Ok u) now → Grew was now (left_at h w m.now)
+  left_held : (w : Where) (f : Option F) (was : Recorded) (m : Moment) (u : Unit) (now : Recorded) → Held Stands f w → LeavesIfAny leaves f was m (Ok u) now → Adds was now (left_at h w m.now)
   left_held (Waiting past) None was m u now s g = elim s [ ]
-  left_held Answered None was m u now s g = grew_none was now g.1
+  left_held Answered None was m u now s g = adds_none was now g.1
   left_held w (Some f) was m u now s g = inner.left w f was m u now s g
 
   refused_held : (w : Where) (f : Option F) (was : Recorded) (m : Moment) (e : NoMemory) (now : Recorded) → Held Stands f w → LeavesIfAny leaves f was m (Err e) now → was.spare < length (left_at h w m.now)
@@ -85,7 +85,7 @@ module _ {H P F B X E : Type 0} (polls : Polls F (Result (Response B X) E)) (lea
   timeout_follows = record {
     poll = λ past f was m a new now s d.
         let r = by_test (due timer.start timer.length m.now) past f was m a new now (ap (λ (x : Timer). due x.start x.length m.now) s.timer_is) s d in
-        record { answer = r.0; grew = r.1; stands = r.2 };
+        record { answer = r.0; adds = r.1; stands = r.2 };
     left = λ w f was m u now s d. rw (same_left w m.now) (left_held w f.inner was m u now s.inner d);
     refused = λ w f was m e now s d. rw (same_left w m.now) (refused_held w f.inner was m e now s.inner d);
   }

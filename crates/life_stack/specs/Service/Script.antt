@@ -5,7 +5,7 @@ use Rattle.http.specs.Request.{IsHeadFor}
 use Rattle.http_uri.specs.Uri.{HasParts}
 use Rattle.http_body.specs.Frame.{data_frame, trailers_frame}
 use Rattle.http_body.specs.declared.frame.Frame.{Frame}
-use Rattle.life_core.specs.History.{Grew}
+use Rattle.life_core.specs.History.{Adds}
 use Rattle.life_core.specs.Limited.{body_in, room_in}
 use Rattle.life_core.specs.Meaning.{Answer, Reply}
 use Rattle.life_core.specs.Moment.{Moment}
@@ -38,7 +38,6 @@ use Rattle.life_stack.specs.Table.Handed.{handed_from, room_before}
 use Rattle.life_stack.specs.declared.service.ext.Ext.{Ext}
 use Rattle.life_stack.specs.declared.service.body.ScriptBody.{ScriptBody}
 use Rattle.life_stack.specs.declared.service.future.ScriptFuture.{ScriptFuture}
-use Rattle.life_stack.specs.declared.service.ScriptService.{ScriptService}
 
 -- the items that a body has left
 abbrev pub items_of : ScriptBody → List BodyItem
@@ -136,7 +135,7 @@ asked_of b = items_of (body_in b)
 
 -- the body was asked n times, and each answer was recorded
 pub record Asked (n : ℕ) (old : Limited ScriptBody) (was : Recorded) (new : Limited ScriptBody) (now : Recorded) : Type 0 where
-  pub grew : Grew was now (handed_from (room_in old) (asked_of old) 0 n)
+  pub adds : Adds was now (handed_from (room_in old) (asked_of old) 0 n)
   pub room : room_in new ≡ room_before (room_in old) (asked_of old) n
   pub rest : asked_of new ≡ drop n (asked_of old)
 
@@ -163,16 +162,23 @@ abbrev pub ScriptPolls : ScriptFuture → Recorded → Moment → Reply ScriptBo
 ScriptPolls old was m (Ok a) new now = PollsBy old.panic old was a new now
 ScriptPolls old was m (Err e) new now = Extends was now
 
-abbrev pub IsServiceOf : List ScriptView → ScriptService → Type 0
-IsServiceOf scripts s = s.scripts.value.items ≡ scripts
+-- a service is seen as the scripts that it shares
+abbrev pub SharedScripts : Type 0
+SharedScripts = List ScriptView
 
 -- it finds this script, whose header lists are not too long, for number i
-abbrev pub Finds : ScriptView → ℕ → ScriptService → Type 0
-Finds script i s = (slice_get s.scripts.value.items i ≡ Some script) × ScriptFits script
+abbrev pub Finds : ScriptView → ℕ → SharedScripts → Type 0
+Finds script i s = (slice_get s i ≡ Some script) × ScriptFits script
 
 -- a request of number i
 abbrev pub IsNumbered : {B : Type 0} → ℕ → Request B Ext → Type 0
 IsNumbered i r = r.head.ext.number ≡ Some (record { 0 = i })
+
+-- a request of number i, with the script's body and so much room for it
+pub record AsksFor (left : ℕ) (script : ScriptView) (i : ℕ) (req : Request (Limited ScriptBody) Ext) : Type 0 where
+  pub numbered : IsNumbered i req
+  pub room : room_in req.body ≡ left
+  pub items : asked_of req.body ≡ script.body
 
 -- the request of a script and its number: GET /, HTTP/1.1, with the script's headers and body
 pub record IsRequestOf (script : ScriptView) (i : ℕ) (r : Request ScriptBody Ext) : Type 0 where
@@ -198,7 +204,7 @@ abbrev pub panic_for : Option ScriptView → Option PanicText
 panic_for None = None
 panic_for (Some script) = panic_of script.call
 
-abbrev pub ScriptReadies : ScriptService → Recorded → Moment → Poll (Result Unit (Fault (List ℕ))) → ScriptService → Recorded → Type 0
+abbrev pub ScriptReadies : SharedScripts → Recorded → Moment → Poll (Result Unit (Fault (List ℕ))) → SharedScripts → Recorded → Type 0
 ScriptReadies old was m answer new now = (answer ≡ Ready (Ok tt)) × (new ≡ old) × (now ≡ was)
 
 -- the future has all poll items of the request's script, the panic of its call, and the request's body
@@ -208,8 +214,8 @@ pub record IsBegun (found : Option ScriptView) (body : Limited ScriptBody) (f : 
   pub body_is : f.body ≡ body
 
 -- the service keeps its scripts
-pub record ScriptCalls (old : ScriptService) (req : Request (Limited ScriptBody) Ext) (was : Recorded) (m : Moment)
-    (answer : Result ScriptFuture NoMemory) (new : ScriptService) (now : Recorded) : Type 0 where
-  pub begun : IfOk answer (IsBegun (script_for old.scripts.value.items req.head.ext.number) req.body)
+pub record ScriptCalls (old : SharedScripts) (req : Request (Limited ScriptBody) Ext) (was : Recorded) (m : Moment)
+    (answer : Result ScriptFuture NoMemory) (new : SharedScripts) (now : Recorded) : Type 0 where
+  pub begun : IfOk answer (IsBegun (script_for old req.head.ext.number) req.body)
   pub same : new ≡ old
   pub unrecorded : now ≡ was

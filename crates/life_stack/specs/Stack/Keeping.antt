@@ -1,30 +1,37 @@
--- The driven stack as one that keeps a table: its places, its table and the key of each request.
-use Rattle.std.specs.Prelude.{⊤}
+-- The driven stack as one that keeps a table: its histories, where its values stand, its table and the key of each request.
+use Rattle.std.specs.Prelude.{[]}
 use Rattle.life_core.specs.declared.message.Request.{Request}
 use Rattle.life_script.specs.declared.scenario.Limits.{Limits}
+use Rattle.life_session.specs.Course.{Histories, Standing, course_places}
 use Rattle.life_session.specs.Table.{Meaning, Places, Table}
-use Rattle.life_stack.specs.Stack.Driven.{BodyMay, DriveBody, DriveFuture, DriveStack, FutureLive, FutureMay, StackMay, StackStands, drive_ends}
-use Rattle.life_stack.specs.Table.Request.{Numbered, numbered}
+use Rattle.life_stack.specs.Stack.Course.{Key, StoryAfter}
+use Rattle.life_stack.specs.Stack.Driven.{BodyMay, BodyStands, DriveBody, DriveFuture, DriveStack, FutureLive, FutureMay, FutureStands, Plan, StackMay, StackStands, body_history, drive_ends, future_history}
+use Rattle.life_stack.specs.Service.Stands.{Head, TellsHead}
+use Rattle.life_stack.specs.Table.Request.{numbered, shown_headers}
 use Rattle.life_stack.specs.Service.Script.{IsRequestOf}
-use Rattle.life_stack.specs.Stack.StandsAt.{BodyAt, FreshAt, FutureAnswered, FutureAt, OverAt}
 use Rattle.life_stack.specs.Table.Story.{story_table}
 use Rattle.life_stack.specs.declared.service.ext.Ext.{Ext}
 use Rattle.life_stack.specs.declared.service.body.ScriptBody.{ScriptBody}
 
-abbrev pub Key : Type 0
-Key = Limits × Numbered
+abbrev pub drive_histories : Histories Key Head Plan
+drive_histories = record {
+  called = λ k. [];
+  future = λ k t0. future_history k.0 k.1 t0;
+  body = λ k t0 plan. body_history k.0 t0 plan;
+  shown = λ said. (said.0, shown_headers said.1);
+}
 
-abbrev pub drive_places : Places Key DriveStack (Request ScriptBody Ext) DriveFuture DriveBody
-drive_places = record {
+abbrev pub drive_standing : Standing Key Head Plan DriveStack (Request ScriptBody Ext) DriveFuture DriveBody Ext
+drive_standing = record {
   serves = λ k s. StackStands k.0 k.1 s;
   asks = λ k req. IsRequestOf k.1.script k.1.number req;
-  ready = λ k was. ⊤;
-  fresh = λ k acts. FreshAt k.0 k.1 acts;
-  waiting = λ k acts f. FutureAt k.0 k.1 acts f;
-  answered = λ k acts f. FutureAnswered k.0 k.1 acts f;
-  streaming = λ k acts b. BodyAt k.0 k.1 acts b;
-  over = λ k acts. OverAt k.0 k.1 acts;
+  heads = TellsHead;
+  future = λ k t0. FutureStands k.0 k.1 t0;
+  body = λ k t0. BodyStands k.0 t0;
 }
+
+abbrev pub drive_places : Places Key DriveStack (Request ScriptBody Ext) DriveFuture DriveBody
+drive_places = course_places drive_standing StoryAfter
 
 abbrev pub drive_table : Key → Table
 drive_table k = story_table k.0 k.1

@@ -1,5 +1,5 @@
 -- What is decided for a request before its script is asked.
-use Rattle.std.specs.Prelude.{ℕ, ◌-◌, List, [], ◌∷◌, length, Bool, true, false, not, Option, codes}
+use Rattle.std.specs.Prelude.{ℕ, List, [], ◌∷◌, Bool, true, false, not, Option, codes}
 use Rattle.http_header.specs.FieldValue.{plain_value}
 use Rattle.life_core.specs.declared.fault.PanicText.{PanicText}
 use Rattle.life_gate.specs.Required.{matches_first}

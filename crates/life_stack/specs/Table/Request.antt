@@ -1,5 +1,5 @@
--- A request as its story sees it: its number and its id, and the moments in its own acts.
-use Rattle.std.specs.Prelude.{ℕ, ◌-◌, List, [], ◌∷◌, Option, Some, None, unwrap_or, decimal}
+-- A request as its story sees it: its number, its id and its headers.
+use Rattle.std.specs.Prelude.{ℕ, unwrap_or, decimal}
 use Rattle.http_header.specs.FieldValue.{plain_value, FieldValue}
 use Rattle.http_header.specs.HeaderMap.{Entries}
 use Rattle.life_core.specs.Fields.{fields}
@@ -7,8 +7,6 @@ use Rattle.life_core.specs.declared.fields.Shown.{Shown}
 use Rattle.life_script.specs.Headers.{Headers, first_value, map_of, with_missing}
 use Rattle.life_script.specs.ScriptView.{ScriptView}
 use Rattle.life_head.specs.Ids.{x_request_id_name}
-use Rattle.life_session.specs.Acts.{Own}
-use Rattle.life_script.specs.declared.scenario.Act.TheVariants as act
 
 -- header fields as they are shown: each name once with its values in order, sorted by name
 abbrev pub shown_headers : Headers → Entries Shown
@@ -31,46 +29,3 @@ ident script = unwrap_or (first_value x_request_id_name script.script.headers) (
 -- the headers with the id at the end, where they have none
 abbrev pub identified : FieldValue → Headers → Headers
 identified id headers = with_missing x_request_id_name id headers
-
--- THE MOMENTS in its own acts.
-
--- the time of the first Call
-abbrev pub called_at : List Own → Option ℕ
-called_at [] = None
-called_at ((t, act.Call) ∷ acts) = Some t
-called_at ((t, act.Poll) ∷ acts) = called_at acts
-called_at ((t, act.Drop) ∷ acts) = called_at acts
-
--- what follows the first Call
-abbrev pub after_call : List Own → List Own
-after_call [] = []
-after_call ((t, act.Call) ∷ acts) = acts
-after_call ((t, act.Poll) ∷ acts) = after_call acts
-after_call ((t, act.Drop) ∷ acts) = after_call acts
-
--- the times of the polls before the first Drop
-abbrev pub polls_before_drop : List Own → List ℕ
-polls_before_drop [] = []
-polls_before_drop ((t, act.Call) ∷ acts) = polls_before_drop acts
-polls_before_drop ((t, act.Poll) ∷ acts) = t ∷ polls_before_drop acts
-polls_before_drop ((t, act.Drop) ∷ acts) = []
-
--- the time of the first Drop
-abbrev pub first_drop : List Own → Option ℕ
-first_drop [] = None
-first_drop ((t, act.Call) ∷ acts) = first_drop acts
-first_drop ((t, act.Poll) ∷ acts) = first_drop acts
-first_drop ((t, act.Drop) ∷ acts) = Some t
-
--- the times of the polls after the first Call and before the first Drop after it
-abbrev pub polls : List Own → List ℕ
-polls acts = polls_before_drop (after_call acts)
-
--- the time of the first Drop after the first Call
-abbrev pub dropped_at : List Own → Option ℕ
-dropped_at acts = first_drop (after_call acts)
-
--- when what was called is given up: at the first Drop after the Call, else at the end
-abbrev pub drop_time : Option ℕ → ℕ → ℕ
-drop_time None end = end
-drop_time (Some d) end = d

@@ -10,8 +10,7 @@ use Rattle.life_core.specs.declared.body.BodyError.TheVariants.{Elapsed, Inner}
 use Rattle.http_header.specs.FieldValue.{FieldValue}
 use Rattle.life_stack.specs.Table.Decision.{Decision, TooLarge, Forbidden, Panicked, Served, bare_reply, decision, forbidden_reply, panic_reply, too_large_reply}
 use Rattle.life_stack.specs.Table.Handed.{handed_bytes, service_events}
-use Rattle.life_stack.specs.Table.Request.{shown_headers}
-use Rattle.life_stack.specs.Table.Request.{Numbered, ident, identified}
+use Rattle.life_stack.specs.Table.Request.{shown_headers, Numbered, ident, identified}
 use Rattle.life_script.specs.ToldView.{ToldView, TurnView}
 use Rattle.life_script.specs.Views.{ReplyView}
 use Rattle.life_script.specs.declared.answer.Answer.{Answer}
@@ -26,7 +25,7 @@ use Rattle.life_script.specs.declared.scenario.Then.{Then}
 use Rattle.life_script.specs.declared.scenario.Then.TheVariants as then_
 use Rattle.life_session.specs.Acts.{Own}
 use Rattle.life_session.specs.Table.{Table, story_by}
-use Rattle.life_stack.specs.Table.Request.{called_at, dropped_at, polls}
+use Rattle.life_session.specs.Moments.{called_at, dropped_at, polls}
 
 -- THE HEAD: the first poll that answers otherwise than Pending, and what it gives.
 
@@ -110,8 +109,8 @@ item_answer reply k (Some (body_item.Fault fault)) = ans.Fault (Inner fault)
 item_answer reply k (Some (body_item.Chunk bytes)) = ans.Frame (seen.Chunk bytes) (tells_after reply (suc k))
 
 -- the k-th poll of the body, at time q; the response was given at ph
-abbrev pub body_answer : Limits → ReplyView → ℕ → ℕ → ℕ → Answer
-body_answer limits reply ph q k = if due ph limits.body_deadline q then ans.Fault Elapsed else item_answer reply k (slice_get reply.body k)
+abbrev pub body_answer : ℕ → ReplyView → ℕ → ℕ → ℕ → Answer
+body_answer deadline reply ph q k = if due ph deadline q then ans.Fault Elapsed else item_answer reply k (slice_get reply.body k)
 
 -- THE ANSWER of each act.
 
@@ -123,7 +122,7 @@ head_answer (Failed error) = ans.ServiceError error
 
 -- the answer of a poll at q, the k-th after the head, which was at ph; after a service error nothing is live
 abbrev pub later_answer : Limits → Outcome → ℕ → ℕ → ℕ → Answer
-later_answer limits (Replied reply) ph q k = body_answer limits reply ph q k
+later_answer limits (Replied reply) ph q k = body_answer limits.body_deadline reply ph q k
 later_answer limits (Failed error) ph q k = ans.Idle
 
 abbrev pub by_head : Limits → List ℕ → ℕ → Option (ℕ × Outcome) → Answer

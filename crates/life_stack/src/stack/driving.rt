@@ -9,10 +9,10 @@ ghost use Rattle.life_stack.specs.Stack.Drive.{report_of};
 ghost use Rattle.life_stack.specs.Table.Handed.{room};
 ghost use Rattle.life_stack.specs.Table.Request.{numbered};
 ghost use Rattle.life_session.specs.Acts.{own};
-ghost use Rattle.life_stack.specs.Table.Request.{drop_time, dropped_at};
+ghost use Rattle.life_session.specs.Moments.{drop_time, dropped_at};
 ghost use Rattle.life_stack.specs.Table.Story.{body_bytes, drop_records, drops, story};
 
-use crate::stack::keeping::Session;
+use crate::stack::keeping::EightLayers;
 use life_script::{DriveError, Limits, Scenario};
 use life_session::Report;
 use std::alloc::Global;
@@ -33,12 +33,5 @@ pub fn drive(alloc: Global, limits: &Limits, scenario: &Scenario) -> Result<Repo
     ensures exact { IfErr (verdict scenario.now) (λ e. result ≡ Err e) }
     ensures complete { IsValid scenario.now → IfErr result (λ e. e ≡ OutOfMemory) }
 {
-    let mut session = Session::begin(alloc, limits, scenario)?;
-    while !session.done() {
-        session = match session.step() {
-            Ok(session) => session,
-            Err(_) => return Err(DriveError::NoMemory),
-        };
-    }
-    Ok(session.finish())
+    life_session::drive::<EightLayers>(alloc, limits, scenario)
 }

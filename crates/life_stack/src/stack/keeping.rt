@@ -29,7 +29,8 @@ impl Driven for EightLayers {
 
     type Ext = Ext;
 
-    ghost use Rattle.life_stack.specs.Stack.Keeping.{Key as DriveKey, drive_meaning};
+    ghost use Rattle.life_stack.specs.Stack.Course.{Key as DriveKey};
+    ghost use Rattle.life_stack.specs.Stack.Keeping.{drive_meaning};
 
     ghost Key = { DriveKey };
 

@@ -1,6 +1,6 @@
 use Rattle.std.proofs.Common.{◌++◌, ap, ◌∙◌, arith}
 use Rattle.life_session.specs.Acts.{Own}
-use Rattle.life_session.proofs.TableLaws.{turns_more}
+use Rattle.life_session.proofs.ReportLaws.{turns_more}
 use Rattle.life_session.proofs.exchange.take_turn.Goals as goal
 
 pub returns-in_err-live-clause-dropped : goal.returns-in_err-live-clause-dropped

@@ -1,6 +1,6 @@
 use Rattle.std.proofs.Common.{Ok, Err, Result, IsOk, IfOk, ap}
 use Rattle.life_core.specs.declared.recorder.NoMemory.{NoMemory}
-use Rattle.life_session.proofs.TableLaws.{told_is}
+use Rattle.life_session.proofs.ReportLaws.{told_is}
 use Rattle.life_session.proofs.exchange.tell.Goals as goal
 
 -- what holds where it is answered Ok, and it is

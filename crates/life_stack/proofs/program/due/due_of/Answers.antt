@@ -1,6 +1,6 @@
 use Rattle.std.proofs.lemmas.Result.{IfOk-weaker}
 use Rattle.life_script.specs.declared.error.DriveError.TheVariants.{TooManyHeaders, ClockBack, NoRequest}
-use Rattle.life_stack.proofs.Endings.{refusal_is_due}
+use Rattle.life_stack.proofs.ProgramLaws.Endings.{refusal_is_due}
 use Rattle.life_stack.proofs.program.due.due_of.Goals as goal
 
 pub returns-in-Err-TooManyHeaders : goal.returns-in-Err-TooManyHeaders

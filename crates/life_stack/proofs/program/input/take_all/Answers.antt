@@ -2,7 +2,7 @@ use Rattle.std.proofs.Common.{◌≡◌, ℕ, ◌≤◌, ◌+◌, ◌++◌, List
 use Rattle.std.proofs.lemmas.List.{length-take-le}
 use Rattle.std.proofs.lemmas.Grind.{common_steps}
 use Rattle.life_stack.specs.Program.Input.{most_bytes}
-use Rattle.life_stack.proofs.Pieces.{taken_more}
+use Rattle.life_stack.proofs.ProgramLaws.Pieces.{taken_more}
 use Rattle.life_stack.proofs.program.input.take_all.Goals as goal
 
 pub returns-then-len-count-gt-MOST-clause-took : goal.returns-then-len-count-gt-MOST-clause-took

@@ -4,7 +4,7 @@ use Rattle.life_stack.specs.Program.Lines.{too_long_line}
 use Rattle.life_stack.specs.Program.Writing.{IsAnswered}
 use Rattle.life_stack.specs.declared.program.words.Command.TheVariants.{Drive}
 use Rattle.life_stack.specs.declared.program.status.Status.TheVariants.{TooLong}
-use Rattle.life_stack.proofs.Endings.{ran_on, due_whole}
+use Rattle.life_stack.proofs.ProgramLaws.Endings.{ran_on, due_whole}
 use Rattle.life_stack.proofs.program.running.drive_source.Goals as goal
 
 pub returns-in-Err-TooLong-clause-ran : goal.returns-in-Err-TooLong-clause-ran

@@ -3,7 +3,7 @@ use Rattle.std.proofs.KnownBytes.{Consumes-nil}
 use Rattle.life_stack.specs.Program.Lines.{usage_line}
 use Rattle.life_stack.specs.declared.program.status.Status.TheVariants.{Usage}
 use Rattle.life_stack.specs.declared.program.words.Command.TheVariants.{Drive}
-use Rattle.life_stack.proofs.Endings.{one_command, ran_on, runs_as, runs_over, runs_through, stands}
+use Rattle.life_stack.proofs.ProgramLaws.Endings.{one_command, ran_on, runs_as, runs_over, runs_through, stands}
 use Rattle.life_stack.proofs.program.running.run.Goals as goal
 
 pub returns-in-None-clause-ran : goal.returns-in-None-clause-ran

@@ -1,5 +1,5 @@
 use Rattle.std.proofs.Common.{◌≤◌, ◌-◌, ◌∙◌, length, take, drop, arith}
-use Rattle.life_stack.proofs.Pieces.{one_more, rest_length, room_left}
+use Rattle.life_stack.proofs.ProgramLaws.Pieces.{one_more, rest_length, room_left}
 use Rattle.life_stack.proofs.program.writing.write_all.Goals as goal
 
 pub loop-at-preserved : goal.loop-at-preserved

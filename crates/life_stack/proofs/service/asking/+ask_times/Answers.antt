@@ -1,4 +1,4 @@
-use Rattle.life_stack.proofs.Handing.{asked_again}
+use Rattle.life_stack.proofs.ServiceLaws.Handing.{asked_again}
 use Rattle.life_stack.proofs.service.asking.+ask_times.Goals as goal
 
 pub returns-in-Ok-clause-asked : goal.returns-in-Ok-clause-asked

@@ -1,4 +1,4 @@
-use Rattle.life_stack.proofs.Handing.{asked_noted}
+use Rattle.life_stack.proofs.ServiceLaws.Handing.{asked_noted}
 use Rattle.life_stack.proofs.service.asking.ask.Goals as goal
 
 pub returns-in-Ok-handed_as-clause-asked : goal.returns-in-Ok-handed_as-clause-asked

@@ -1,46 +1,44 @@
-use Rattle.std.proofs.Common.{◌≡◌, ◌≤◌, ◌∙◌, ℕ, Some, subst, sym}
-use Rattle.std.specs.Prelude.{slice_get}
-use Rattle.life_script.specs.ScriptView.{ScriptView}
-use Rattle.life_script.specs.ToldView.{ToldView}
-use Rattle.life_stack.specs.Table.Handed.{room}
-use Rattle.life_stack.specs.Table.Request.{numbered}
-use Rattle.life_session.specs.Acts.{own}
-use Rattle.life_stack.specs.Table.Request.{drop_time, dropped_at}
+use Rattle.std.proofs.Common.{◌≡◌, sym, subst, Result, Ok, Err, IfOk, ◌≤◌, ℕ, Some, ap, ◌∙◌, arith}
+use Rattle.life_script.specs.declared.error.DriveError.{DriveError}
 use Rattle.life_session.specs.Report.{ReportView}
-use Rattle.life_stack.specs.Table.Story.{body_bytes, drop_records, drops, story, story_table}
-use Rattle.life_session.proofs.ReportLaws.{story_of}
-use Rattle.life_stack.proofs.Reports.{report_bounded, report_drops, same_report}
+use Rattle.life_session.proofs.ReportLaws.{story_of, told_story}
+use Rattle.life_stack.specs.Stack.Drive.{report_of}
+use Rattle.life_stack.specs.Table.Request.{numbered}
+use Rattle.life_stack.specs.Table.Story.{story_table, body_bytes, drops, drop_records}
+use Rattle.std.specs.Prelude.{slice_get}
+use Rattle.life_script.specs.ScriptView.{ScriptView, ScenarioView}
+use Rattle.life_script.specs.ToldView.{ToldView}
+use Rattle.life_script.specs.declared.scenario.Limits.{Limits}
+use Rattle.life_session.specs.Acts.{own}
+use Rattle.life_stack.proofs.TableLaws.Bounds.{story_bounded}
+use Rattle.life_stack.proofs.TableLaws.Drops.{drops_once}
+use Rattle.life_stack.specs.Table.Handed.{room}
+use Rattle.life_session.specs.Moments.{dropped_at, drop_time}
 use Rattle.life_stack.proofs.stack.driving.drive.Goals as goal
 
+-- each request has the early drops of the table
+report_drops : (limits : Limits) (s : ScenarioView) (i : ℕ) (script : ScriptView) (t : ToldView) → slice_get s.requests i ≡ Some script → slice_get (report_of limits s).told i ≡ Some t →
+    drop_records t ≡ drops limits (numbered i script) (own s.steps i) (drop_time (dropped_at (own s.steps i)) s.end)
+report_drops limits s i script t here is =
+    ap drop_records (told_story (λ j x. story_table limits (numbered j x)) s i script t here is) ∙ drops_once limits (numbered i script) (own s.steps i) s.end
+
+-- and no service was handed more than it has room for
+report_bounded : (limits : Limits) (s : ScenarioView) (i : ℕ) (script : ScriptView) (t : ToldView) → slice_get s.requests i ≡ Some script → slice_get (report_of limits s).told i ≡ Some t → body_bytes t ≤ room limits script
+report_bounded limits s i script t here is =
+    let same = ap body_bytes (told_story (λ j x. story_table limits (numbered j x)) s i script t here is) in
+    let bound = story_bounded limits (numbered i script) (own s.steps i) s.end in
+    omega (arith, same, bound)
+
+-- what holds of the report of a scenario holds of what a drive answers
+of_report : (P : ReportView → Type 0) (r : Result ReportView DriveError) (whole : ReportView) → IfOk r (λ told. told ≡ whole) → P whole → IfOk r P
+of_report P (Ok told) whole is p = subst P (sym is) p
+of_report P (Err e) whole is p = tt
+
 pub returns-clause-each : goal.returns-clause-each
-returns-clause-each c =
-    let limits = c.args.limits.now in
-    let scenario = c.args.scenario.now in
-    let i = c.loop-session.invariant in
-    let whole = same_report limits _ scenario _ _ c.finish.ensures i.limits_are i.scenario_is in
-    subst (λ (r : ReportView). (i : ℕ) (script : ScriptView) → slice_get scenario.requests i ≡ Some script → slice_get r.told i ≡ Some (story limits (numbered i script) (own r.steps i) r.end)) (sym whole)
-    (story_of (λ i script. story_table limits (numbered i script)) scenario)
+returns-clause-each c = let s = c.args.scenario.now in of_report _ c.drive.result (report_of c.args.limits.now s) c.drive.ensures.told (story_of (λ i script. story_table c.args.limits.now (numbered i script)) s)
 
 pub returns-clause-once : goal.returns-clause-once
-returns-clause-once c =
-    let limits = c.args.limits.now in
-    let scenario = c.args.scenario.now in
-    let i = c.loop-session.invariant in
-    let whole = same_report limits _ scenario _ _ c.finish.ensures i.limits_are i.scenario_is in
-    subst (λ (r : ReportView). (i : ℕ) (script : ScriptView) (t : ToldView) → slice_get scenario.requests i ≡ Some script → slice_get r.told i ≡ Some t
-    → drop_records t ≡ drops limits (numbered i script) (own r.steps i) (drop_time (dropped_at (own r.steps i)) r.end))
-    (sym whole) (report_drops limits scenario)
+returns-clause-once c = of_report _ c.drive.result (report_of c.args.limits.now c.args.scenario.now) c.drive.ensures.told (report_drops c.args.limits.now c.args.scenario.now)
 
 pub returns-clause-bounded : goal.returns-clause-bounded
-returns-clause-bounded c =
-    let limits = c.args.limits.now in
-    let scenario = c.args.scenario.now in
-    let i = c.loop-session.invariant in
-    let whole = same_report limits _ scenario _ _ c.finish.ensures i.limits_are i.scenario_is in
-    subst (λ (r : ReportView). (i : ℕ) (script : ScriptView) (t : ToldView) → slice_get scenario.requests i ≡ Some script → slice_get r.told i ≡ Some t → body_bytes t ≤ room limits script)
-    (sym whole) (report_bounded limits scenario)
-
-pub returns-clause-told : goal.returns-clause-told
-returns-clause-told c =
-    let i = c.loop-session.invariant in
-    same_report c.args.limits.now _ c.args.scenario.now _ _ c.finish.ensures i.limits_are i.scenario_is
+returns-clause-bounded c = of_report _ c.drive.result (report_of c.args.limits.now c.args.scenario.now) c.drive.ensures.told (report_bounded c.args.limits.now c.args.scenario.now)

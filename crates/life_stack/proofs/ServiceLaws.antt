@@ -1,0 +1,3 @@
+pub mod CaughtFollows
+pub mod Handing
+pub mod ScriptFollows

@@ -1,0 +1,4 @@
+pub mod DrivenFollows
+pub mod Keeping
+pub mod Naming
+pub mod Steps

@@ -1,0 +1,173 @@
+-- The driven stack follows its histories: each layer's lemma over the one below it.
+use Rattle.std.proofs.Common.{◌≡◌, ℕ, List, [], length, Bool, true, false, Some, Ok, refl, ap, subst, arith}
+use Rattle.std.proofs.lemmas.Bool.{le-leb}
+use Rattle.std.specs.Prelude.{codes, ⊤}
+use Rattle.life_core.specs.Boxed.{IsEmptyBox}
+use Rattle.life_core.specs.History.{BodyFollows, FutureFollows, FutureHistory, Adds, ServiceFollows, Where, answers_instead, records_unless}
+use Rattle.life_core.specs.Limited.{LimitedLeaves}
+use Rattle.life_core.specs.Message.{IsBare}
+use Rattle.life_core.specs.Moment.{Moment}
+use Rattle.life_core.specs.OneChunk.{TellsEnd}
+use Rattle.life_core.specs.Recorded.{Recorded}
+use Rattle.life_core.specs.declared.body.limited.Limited.{Limited}
+use Rattle.life_core.specs.declared.event.DropKind.TheVariants as drop_kind
+use Rattle.life_core.specs.declared.message.Request.{Request}
+use Rattle.life_core.specs.declared.message.ResponseHead.{ResponseHead}
+use Rattle.life_core.proofs.Bodies.{full_never_faults}
+use Rattle.life_core.proofs.Growth.{adds_none}
+use Rattle.life_drop.specs.Note.{noting}
+use Rattle.life_drop.specs.Stands.{DropStands}
+use Rattle.life_drop.proofs.DropFollows.{drop_follows, drop_body_follows, drop_serves}
+use Rattle.life_drop.proofs.NoteFollows.{note_records, note_future, note_start, note_body}
+use Rattle.life_head.specs.Ids.{NumberMakes, x_request_id_name}
+use Rattle.life_head.specs.declared.request_id.propagating.PropagateRequestIdResponseFuture.{PropagateRequestIdResponseFuture}
+use Rattle.life_head.proofs.RequestIdFollows.{propagate_follows, propagate_keeps, propagate_serves, set_serves}
+use Rattle.life_gate.specs.Required.{is_refused}
+use Rattle.life_gate.specs.Stands.{Judges}
+use Rattle.life_gate.proofs.GateFollows.{gate_follows, gate_keeps, gate_serves, required_judges}
+use Rattle.life_limit.specs.declared.limit.body.ResponseBody.TheVariants.{PayloadTooLarge, Body}
+use Rattle.life_limit.proofs.LimitFollows.{limit_body_follows, limit_follows, limit_keeps, limit_serves}
+use Rattle.life_script.specs.ScriptView.{ScriptView}
+use Rattle.life_script.specs.Valid.{ScriptFits}
+use Rattle.life_script.specs.declared.scenario.CallItem.{CallItem}
+use Rattle.life_script.specs.declared.scenario.Limits.{Limits}
+use Rattle.life_time.specs.DeadlineBody.{DeadlineBodyLeaves, DeadlineFrames, deadline_ends}
+use Rattle.life_time.specs.Stands.{DeadlineBodyStands, DeadlineStands, TimeoutStands}
+use Rattle.life_time.proofs.DeadlineFollows.{deadline_follows, deadline_body_follows, deadline_serves}
+use Rattle.life_time.proofs.TimeoutFollows.{timeout_follows, timeout_serves}
+use Rattle.life_stack.specs.Stack.Driven.{AsksGate, BodyStands, FutureStands, InnerBody, InnerBodyStands, InnerFuture, InnerServes, InnerStands, IsDefaultInner, StackStands, body_history, drive_body_leaves, drive_calls, drive_ends, drive_frames, drive_leaves, drive_polls, forbidden_head, future_history, gate_validates, inner_body_leaves, inner_calls, inner_ends, inner_frames, inner_leaves, inner_polls, named, service_history, timed_body_history}
+use Rattle.life_stack.specs.Service.Stands.{BodyPlan, Head, Heads, TellsHead, body_plan, script_body_history}
+use Rattle.life_stack.specs.Service.Caught.{Caught, CaughtStands, caught_leaves, decided_says, caught_history}
+use Rattle.life_stack.specs.Table.Decision.{bare_reply, decided, forbidden_reply, is_shut, is_too_large, too_large_reply, called_by}
+use Rattle.life_stack.specs.Table.Handed.{decided_events, room}
+use Rattle.life_stack.specs.Table.Request.{Numbered, ident}
+use Rattle.life_stack.specs.Service.Script.{IsDefaultExt, IsRequestOf, ScriptLeaves, ext_id, ext_number, item_frame, with_id}
+use Rattle.life_stack.specs.Table.Story.{due_reply}
+use Rattle.life_stack.specs.declared.service.ext.Ext.{Ext}
+use Rattle.life_stack.specs.declared.service.body.ScriptBody.{ScriptBody}
+use Rattle.life_stack.proofs.ServiceLaws.Handing.{no_item}
+use Rattle.life_stack.proofs.StackLaws.Naming.{AsksInner, head_named, request_named}
+use Rattle.life_stack.proofs.ServiceLaws.CaughtFollows.{caught_body, caught_follows, caught_keeps, caught_serves, follows_as, one_text, plain}
+
+-- BODIES.
+
+inner_body : BodyFollows inner_frames inner_body_leaves inner_ends InnerBodyStands script_body_history
+inner_body = limit_body_follows _ _ _ _ script_body_history caught_body (full_never_faults script_body_history)
+
+timed_body : (limits : Limits) → BodyFollows (DeadlineFrames inner_frames) (DeadlineBodyLeaves inner_body_leaves) (deadline_ends inner_ends) (DeadlineBodyStands limits.body_deadline InnerBodyStands) (timed_body_history limits.body_deadline)
+timed_body limits = deadline_body_follows _ _ _ _ _ limits.body_deadline inner_body
+
+no_items : (status : ℕ) → TellsEnd (script_body_history (body_plan (bare_reply status)))
+no_items status = record {
+  frame = λ past q. ap item_frame (no_item (length past));
+  ends = λ past. le-leb 0 (length past) (omega arith);
+  events = λ past q. refl;
+  left = λ past q. refl;
+}
+
+empty_box : (status : ℕ) (box : Caught) → IsEmptyBox box → CaughtStands (body_plan (bare_reply status)) box []
+empty_box status box d = rw d (no_items status)
+
+default : (limits : Limits) (b : InnerBody) → IsDefaultInner b → InnerBodyStands (body_plan (due_reply limits)) b []
+default limits (Body box) d = empty_box limits.timeout_status box d
+default limits (PayloadTooLarge b) d = absurd d
+
+-- HEADS.
+
+-- a head without headers
+bare : (status : ℕ) (head : ResponseHead Ext) → IsBare IsDefaultExt status head → TellsHead (status, []) head
+bare status head b = record { status_is = b.status_is; headers_are = b.no_headers }
+
+-- THE LAYERS THAT MAY ANSWER in the service's place.
+
+abbrev large_head : Head
+large_head = (too_large_reply.status, too_large_reply.headers)
+
+abbrev guarded_history : Bool → Bool → CallItem → ℕ → ScriptView → FutureHistory Head BodyPlan (List ℕ)
+guarded_history large shut call left script = answers_instead large large_head (body_plan too_large_reply) (answers_instead shut forbidden_head (body_plan forbidden_reply) (caught_history (called_by call) left script))
+
+guarded_says : (large shut : Bool) (call : CallItem) (left : ℕ) (script : ScriptView) (past : List ℕ) (t : ℕ) → (guarded_history large shut call left script).says past t ≡ decided_says (decided large shut call) script.polls (length past)
+guarded_says true shut call left script past t = refl
+guarded_says false true call left script past t = refl
+guarded_says false false call left script past t = refl
+
+guarded_events : (large shut : Bool) (call : CallItem) (left : ℕ) (script : ScriptView) (past : List ℕ) (t : ℕ) → (guarded_history large shut call left script).events past t ≡ decided_events (decided large shut call) left script (length past)
+guarded_events true shut call left script past t = refl
+guarded_events false true call left script past t = refl
+guarded_events false false call left script past t = refl
+
+guarded_left : (large shut : Bool) (call : CallItem) (left : ℕ) (script : ScriptView) (past : List ℕ) (t : ℕ) → (guarded_history large shut call left script).left past t ≡ []
+guarded_left true shut call left script past t = refl
+guarded_left false true call left script past t = refl
+guarded_left false false call left script past t = refl
+
+-- a refusal of the gate
+refused_head : (head : ResponseHead Ext) → IsBare IsDefaultExt 403 head → Heads forbidden_head head
+refused_head head b = (bare 403 head b, omega arith)
+
+-- the gate asks for what the limits say
+gate_judges : (limits : Limits) → Judges {B = Limited ScriptBody} gate_validates (AsksGate limits) (λ (req : Request (Limited ScriptBody) Ext). is_refused limits.gate_name limits.gate_value req.head.parts.headers)
+    Heads CaughtStands forbidden_head (body_plan forbidden_reply)
+gate_judges limits = required_judges IsEmptyBox IsDefaultExt limits.gate_name limits.gate_value Heads CaughtStands forbidden_head (body_plan forbidden_reply) refused_head (empty_box 403)
+
+inner_follows : (limits : Limits) (script : Numbered) → FutureFollows inner_polls inner_leaves Heads (InnerStands limits script) InnerBodyStands (service_history limits script)
+inner_follows limits script =
+    let large = is_too_large limits script.script in let shut = is_shut limits script in let left = room limits script.script in let call = script.script.call in
+    follows_as _ _ _ _ _ (guarded_history large shut call left script.script) _ (guarded_says large shut call left script.script) (guarded_events large shut call left script.script) (guarded_left large shut call left script.script)
+    (limit_follows _ _ IsDefaultExt Heads large_head (plain 413 (codes "length limit exceeded")) _ _ script_body_history (body_plan too_large_reply) (one_text 413 (codes "length limit exceeded")) _
+    (gate_follows _ _ _ caught_leaves _ Heads _ _ script_body_history forbidden_head (body_plan forbidden_reply) _ (λ t. refl)
+    (caught_follows left script.script) caught_body shut) large)
+
+no_events : (large shut : Bool) → records_unless large (records_unless shut []) ≡ []
+no_events true shut = refl
+no_events false true = refl
+no_events false false = refl
+
+-- to give up a request's body records nothing
+quiet : (body : ScriptBody) (was : Recorded) (m : Moment) (u : Unit) (now : Recorded) → ScriptLeaves body was m (Ok u) now → Adds was now []
+quiet body was m u now d = adds_none was now d.1
+
+quiet_within : (body : Limited ScriptBody) (was : Recorded) (m : Moment) (u : Unit) (now : Recorded) → LimitedLeaves ScriptLeaves body was m (Ok u) now → Adds was now []
+quiet_within body was m u now d = adds_none was now d.1
+
+inner_serves : (limits : Limits) (script : Numbered) → ServiceFollows inner_calls (AsksInner limits script) (InnerServes limits script) (λ t. InnerStands limits script) []
+inner_serves limits script =
+    let large = is_too_large limits script.script in let shut = is_shut limits script in
+    subst (λ es. ServiceFollows inner_calls (AsksInner limits script) (InnerServes limits script) (λ t. InnerStands limits script) es) (no_events large shut)
+    (limit_serves _ ScriptLeaves _ _ _ _ quiet
+    (gate_serves _ _ (LimitedLeaves ScriptLeaves) caught_leaves _ _ _ _ (AsksGate limits) _ Heads CaughtStands forbidden_head (body_plan forbidden_reply) quiet_within (gate_judges limits)
+    (caught_serves (room limits script.script) script.script script.number) shut) large limits.byte_limit)
+
+inner_keeps : (limits : Limits) (script : Numbered) → ServiceFollows {R = Request ScriptBody Ext} inner_calls (λ r. ⊤) (InnerServes limits script) (λ t (f : InnerFuture) (w : Where). ⊤) []
+inner_keeps limits script = limit_keeps _ ScriptLeaves _ _ quiet
+    (gate_keeps _ _ (LimitedLeaves ScriptLeaves) caught_leaves _ _ (AsksGate limits) _ Heads CaughtStands forbidden_head (body_plan forbidden_reply) quiet_within (gate_judges limits)
+    (caught_keeps script.script script.number)) limits.byte_limit
+
+-- THE STACK.
+
+pub future_follows : (limits : Limits) (script : Numbered) (t0 : ℕ) →
+    FutureFollows drive_polls drive_leaves TellsHead (FutureStands limits script t0) (BodyStands limits t0) (future_history limits script t0)
+future_follows limits script t0 = drop_follows _ _ _ _ _ _ _ _ _ _ _ _ _ _ (note_body TellsHead (λ h. h.0) (λ g head h. h.status_is) t0) _ (noting drop_kind.Future t0) _ note_records
+    (deadline_follows _ _ _ _ _ _ limits.body_deadline
+    (timeout_follows _ _ _ _ _ (record { start = t0; length = limits.timeout }) limits.timeout_status (limits.timeout_status, []) (bare limits.timeout_status) _ _ _ (body_plan (due_reply limits)) (default limits)
+    (propagate_follows _ _ _ ext_id with_id x_request_id_name (Some (ident script)) Heads TellsHead (named (ident script)) (head_named (ident script)) _ _ _ (inner_follows limits script))))
+    (timed_body limits)
+
+pub body_follows : (limits : Limits) (t0 : ℕ) → BodyFollows drive_frames drive_body_leaves drive_ends (BodyStands limits t0) (body_history limits t0)
+body_follows limits t0 = drop_body_follows _ _ _ _ _ (λ (h : Head). noting (drop_kind.Body h.0) t0) _ _ note_records (timed_body limits)
+
+pub stack_follows : (limits : Limits) (script : Numbered) →
+    ServiceFollows {R = Request ScriptBody Ext} drive_calls (λ req. IsRequestOf script.script script.number req × ScriptFits script.script) (StackStands limits script) (FutureStands limits script) []
+stack_follows limits script = set_serves _ (NumberMakes ext_number) ext_id with_id ScriptLeaves _ _ _ _ (λ _. ⊤) (λ maker req made new k m. tt) x_request_id_name _ (request_named limits script)
+    (drop_serves _ _ _ _ _ _ _ _ note_future _ _ note_start
+    (deadline_serves _ _ _ _ _ (timeout_serves _ _ _ _ _
+    (propagate_serves _ ScriptLeaves _ _ _ _ (inner_serves limits script) x_request_id_name (Some (ident script))) limits.timeout limits.timeout_status) limits.body_deadline))
+
+-- whatever is asked, the stack stands for what it stood for
+pub stack_keeps : (limits : Limits) (script : Numbered) → ServiceFollows {R = Request ScriptBody Ext} drive_calls (λ r. ⊤) (StackStands limits script)
+    (λ t0. DropStands (noting drop_kind.Future t0) t0 (DeadlineStands limits.body_deadline
+    (TimeoutStands (record { start = t0; length = limits.timeout }) limits.timeout_status (λ (f : PropagateRequestIdResponseFuture InnerFuture) (w : Where). ⊤)))) []
+stack_keeps limits script = set_serves _ (NumberMakes ext_number) ext_id with_id ScriptLeaves (λ r. ⊤) _ _ _ (λ _. ⊤) (λ maker req made new k m. tt) x_request_id_name (λ r. ⊤) (λ maker req maker_new new k q t. tt)
+    (drop_serves _ _ _ _ _ _ _ _ note_future _ _ note_start
+    (deadline_serves _ _ _ _ _ (timeout_serves _ _ _ _ _
+    (propagate_keeps _ ScriptLeaves _ _ _ (inner_keeps limits script) x_request_id_name) limits.timeout limits.timeout_status) limits.body_deadline))

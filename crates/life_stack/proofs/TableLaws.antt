@@ -1,0 +1,6 @@
+pub mod Acts
+pub mod Answering
+pub mod Bounds
+pub mod Drops
+pub mod Failing
+pub mod Heads
