@@ -81,8 +81,8 @@ where
     records_nothing(rt, name, &mut log);
 }
 
-/// Gives up a body, which records nothing.
-fn leave<B: Spend<Log>>(rt: &(impl Abort + AllocGlobal), body: B)
+/// Abandons a body, which records nothing.
+fn abandon<B: Spend<Log>>(rt: &(impl Abort + AllocGlobal), body: B)
     requires { B.may body }
 {
     let alloc = rt.alloc();
@@ -116,7 +116,7 @@ fn limits(
     let mut body = Limited::new(ProbeBody::new(says), room);
     answers_all(rt, name, &mut body, wants);
     is(rt, name, Body::<Log>::is_end_stream(&body), false);
-    leave(rt, body);
+    abandon(rt, body);
 }
 
 /// The fault of a chunk that is longer than the room.
@@ -234,14 +234,14 @@ fn one_chunk(rt: HostRuntime) {
     let first = Full::new(Bytes::from_static(b"hi"));
     let mut body = first.twin(rt.alloc()).expect(&rt, "memory");
     is_one_chunk(&rt, &mut body);
-    leave(&rt, body);
+    abandon(&rt, body);
 }
 
 #[test]
 fn an_empty_chunk(rt: HostRuntime) {
     let mut body = Full::new(Bytes::new());
     is_over(&rt, "an empty chunk", &mut body);
-    leave(&rt, body);
+    abandon(&rt, body);
 }
 
 /// Asserts that a body of one chunk is at its end, and its twin too.
@@ -261,7 +261,7 @@ fn no_chunk(rt: HostRuntime) {
     let mut body = Empty::new().twin(rt.alloc()).expect(&rt, "memory");
     is_over(&rt, "at first", &mut body);
     is_over(&rt, "after the end", &mut body);
-    leave(&rt, body);
+    abandon(&rt, body);
 }
 
 /// Asserts whether a body with room for 5 bytes tells its end, and its hint.
@@ -276,7 +276,7 @@ fn tells_in_room<B: Body<Log, Data = Bytes>>(
 {
     let limited = Limited::new(body, 5);
     tells(rt, name, &limited, ended, hint);
-    leave(rt, limited);
+    abandon(rt, limited);
 }
 
 /// Chunks, and what they hint with room for 5 bytes.
@@ -352,7 +352,7 @@ fn a_service_body_in_the_box(rt: HostRuntime) {
     });
     tells(&rt, "a service's", &inner, false, (1, Some(1)));
     answers_all(&rt, "a service's", &mut inner, &EACH);
-    leave(&rt, inner);
+    abandon(&rt, inner);
 }
 
 #[test]
@@ -360,7 +360,7 @@ fn a_panic_body_in_the_box(rt: HostRuntime) {
     let full = Full::new(Bytes::from_static(b"hi"));
     let mut panic: UnsyncBoxBody<ProbeBody, Full> = UnsyncBoxBody::Panic(full);
     is_one_chunk(&rt, &mut panic);
-    leave(&rt, panic);
+    abandon(&rt, panic);
 }
 
 /// A default body, which may be polled.
@@ -375,5 +375,5 @@ fn default_bodies(rt: HostRuntime) {
     let mut body: UnsyncBoxBody<Empty, Full> = default_of();
     is_over(&rt, "the default", &mut body);
     is_over(&rt, "the default later", &mut body);
-    leave(&rt, body);
+    abandon(&rt, body);
 }

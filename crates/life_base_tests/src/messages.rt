@@ -4,7 +4,7 @@ use crate::headers::{first_is, put};
 use http::header::CONTENT_TYPE;
 use http::{HeaderValue, Method, StatusCode, Version};
 use life_core::{
-    Cx, Empty, Log, NoMemory, Request, Response, ResponseHead, Text, Twin, give_up_request,
+    Cx, Empty, Log, NoMemory, Request, Response, ResponseHead, Text, Twin, abandon_request,
 };
 use std::alloc::Global;
 use std::process::Abort;
@@ -25,8 +25,8 @@ fn request_is(
     let Empty = request.body();
 }
 
-/// Gives up a request, which records nothing.
-fn gives_up(rt: &(impl Abort + AllocGlobal), request: Request<Empty, u64>) {
+/// Abandons a request, which records nothing.
+fn abandons(rt: &(impl Abort + AllocGlobal), request: Request<Empty, u64>) {
     let alloc = rt.alloc();
     let span = None;
     let mut log = Log::new(alloc);
@@ -36,7 +36,7 @@ fn gives_up(rt: &(impl Abort + AllocGlobal), request: Request<Empty, u64>) {
         alloc,
         rec: &mut log,
     };
-    let NoMemory = give_up_request(request, &mut cx);
+    let NoMemory = abandon_request(request, &mut cx);
     records_nothing(rt, "a request that is given up", &mut log);
 }
 
@@ -47,7 +47,7 @@ fn requests(rt: HostRuntime) {
     let (head, body) = request.into_parts();
     let request = Request::from_parts(head, body);
     request_is(&rt, &request, "GET", Version::HTTP_11, 5);
-    gives_up(&rt, request);
+    abandons(&rt, request);
 }
 
 /// The request for `/` with a header and this text beside it.
@@ -95,7 +95,7 @@ fn requests_changed(rt: HostRuntime) {
     *request.ext_mut() = 6;
     request_is(&rt, &request, "POST", Version::HTTP_10, 6);
     request_lends(&rt, &mut request);
-    gives_up(&rt, request);
+    abandons(&rt, request);
 }
 
 /// Asserts what a response without headers is.

@@ -2,7 +2,7 @@
 use Rattle.std.proofs.Common.{◌≡◌, inl, inr, ℕ, ◌<◌, List, [], ◌∷◌, length, Bool, Option, Some, None, Ok, Err, Result, refl, sym, ap, ◌∙◌, subst}
 use Rattle.std.proofs.lemmas.Bool.{le-leb, lt-leb}
 use Rattle.http_body.specs.declared.frame.Frame.{Frame}
-use Rattle.life_core.specs.Meaning.{Leaves, Frames}
+use Rattle.life_core.specs.Calls.{Abandons, Frames}
 use Rattle.life_core.specs.Moment.{Moment}
 use Rattle.life_core.specs.Recorded.{Recorded}
 use Rattle.life_core.specs.declared.body.BodyError.{BodyError}
@@ -15,12 +15,12 @@ use Rattle.life_core.specs.declared.event.Event.{Event}
 use Rattle.life_core.specs.declared.poll.Poll.{Poll}
 use Rattle.life_core.specs.declared.poll.Poll.TheVariants.{Ready, Pending}
 use Rattle.life_core.specs.declared.recorder.NoMemory.{NoMemory}
-use Rattle.life_core.specs.Boxed.{BoxFrames, BoxLeaves, NeverFaults, box_ends}
-use Rattle.life_core.specs.Full.{FullFrames, LeavesNothing, full_answer, full_ends, full_of}
+use Rattle.life_core.specs.UnsyncBoxBody.{BoxFrames, BoxAbandons, NeverFaults, box_ends}
+use Rattle.life_core.specs.Full.{FullFrames, NothingToAbandon, full_answer, full_ends}
 use Rattle.life_core.specs.History.{Latest, Adds, BodyHistory, BodyFollows, FrameSteps}
-use Rattle.life_core.specs.Limited.{LimitedFrames, LimitedLeaves, limited_ends, length_of}
+use Rattle.life_core.specs.Limited.{LimitedFrames, LimitedAbandons, limited_ends, length_of}
 use Rattle.life_core.specs.LimitedHistory.{LimitedStands, limited_history, room_after, within}
-use Rattle.life_core.specs.OneChunk.{TellsChunk, TellsEnd, ChunkStands, FullStands, BoxStands}
+use Rattle.life_core.specs.OneChunk.{ChunkStands, FullStands, BoxStands}
 use Rattle.life_core.proofs.Growth.{adds_none}
 
 ok_is : {A E : Type 0} {a b : A} → ◌≡◌ {A = Result A E} (Ok a) (Ok b) → a ≡ b
@@ -68,7 +68,7 @@ module _ {P E : Type 0} (h : P → BodyHistory (List ℕ) E) where
   nothing_left p None (x ∷ past) q (inl t) = t.left (x ∷ past) q
   nothing_left p None (x ∷ past) q (inr t) = t.1.left (x ∷ past) q
 
-  pub full_follows : BodyFollows (FullFrames {E = E}) LeavesNothing full_ends (FullStands h) h
+  pub full_follows : BodyFollows (FullFrames {E = E}) NothingToAbandon full_ends (FullStands h) h
   full_follows = record {
     tells = λ p b past s. told p b.chunk past s;
     frame = λ p past b was m a new now l s d. gave p b.chunk past was m.now a new now s d.answer_is d.taken d.unrecorded;
@@ -97,7 +97,7 @@ module _ {P E : Type 0} (h : P → BodyHistory (List ℕ) E) where
     without_fault b was m (Ready (Some (Ok f))) new now d = record { answer_is = frame_is b.chunk f d.answer_is; taken = d.taken; unrecorded = d.unrecorded }
     without_fault b was m (Ready (Some (Err e))) new now d = elim d [ ]
 
-  pub full_never_faults : {N : Type 0} → BodyFollows (NeverFaults {E = E} (FullFrames {E = N})) LeavesNothing full_ends (FullStands h) h
+  pub full_never_faults : {N : Type 0} → BodyFollows (NeverFaults {E = E} (FullFrames {E = N})) NothingToAbandon full_ends (FullStands h) h
   full_never_faults {N = N} = record {
     tells = λ p b past s. full_follows.tells p b past s;
     frame = λ p past b was m a new now l s d. full_follows.frame p past b was m a new now l s (without_fault N b was m a new now d);
@@ -105,15 +105,9 @@ module _ {P E : Type 0} (h : P → BodyHistory (List ℕ) E) where
     refused = λ p past b was m e now s d. full_follows.refused p past b was m e now s d;
   }
 
-  pub full_stands : (p : P) (byte : ℕ) (bytes : List ℕ) → TellsChunk (byte ∷ bytes) (h p) → FullStands h p (full_of (byte ∷ bytes)) []
-  full_stands p byte bytes t = t
-
-  pub full_of_nothing_stands : (p : P) → TellsEnd (h p) → FullStands h p (full_of []) []
-  full_of_nothing_stands p t = t
-
-module _ {P B Q E N : Type 0} (frames : Frames B (List ℕ) E) (leaves : Leaves B) (ends : B → Bool) (Stands : P → B → List ℕ → Type 0)
-    (panic_frames : Frames Q (List ℕ) N) (panic_leaves : Leaves Q) (panic_ends : Q → Bool) (PanicStands : P → Q → List ℕ → Type 0) (h : P → BodyHistory (List ℕ) E)
-    (inner : BodyFollows frames leaves ends Stands h) (panic : BodyFollows (NeverFaults panic_frames) panic_leaves panic_ends PanicStands h) where
+module _ {P B Q E N : Type 0} (frames : Frames B (List ℕ) E) (abandons : Abandons B) (ends : B → Bool) (Stands : P → B → List ℕ → Type 0)
+    (panic_frames : Frames Q (List ℕ) N) (panic_abandons : Abandons Q) (panic_ends : Q → Bool) (PanicStands : P → Q → List ℕ → Type 0) (h : P → BodyHistory (List ℕ) E)
+    (inner : BodyFollows frames abandons ends Stands h) (panic : BodyFollows (NeverFaults panic_frames) panic_abandons panic_ends PanicStands h) where
   abbrev Within : P → UnsyncBoxBody B Q → List ℕ → Type 0
   Within = BoxStands h Stands PanicStands
 
@@ -139,22 +133,22 @@ module _ {P B Q E N : Type 0} (frames : Frames B (List ℕ) E) (leaves : Leaves 
   }
 
   box_left : (p : P) (past : List ℕ) (b : UnsyncBoxBody B Q) (was : Recorded) (m : Moment) (u : Unit) (now : Recorded) →
-      Within p b past → BoxLeaves leaves panic_leaves b was m (Ok u) now → Adds was now ((h p).left past m.now)
+      Within p b past → BoxAbandons abandons panic_abandons b was m (Ok u) now → Adds was now ((h p).left past m.now)
   box_left p past (Box.Inner b) was m u now s d = inner.left p past b was m u now s d
   box_left p past (Box.Panic b) was m u now s d = panic.left p past b was m u now s d
   box_left p past Box.Empty was m u now s d = quiet was now _ (s.left past m.now) d.1
 
   box_refused : (p : P) (past : List ℕ) (b : UnsyncBoxBody B Q) (was : Recorded) (m : Moment) (e : NoMemory) (now : Recorded) →
-      Within p b past → BoxLeaves leaves panic_leaves b was m (Err e) now → was.spare < length ((h p).left past m.now)
+      Within p b past → BoxAbandons abandons panic_abandons b was m (Err e) now → was.spare < length ((h p).left past m.now)
   box_refused p past (Box.Inner b) was m e now s d = inner.refused p past b was m e now s d
   box_refused p past (Box.Panic b) was m e now s d = panic.refused p past b was m e now s d
   box_refused p past Box.Empty was m e now s d = absurd (cc d.0)
 
-  pub box_follows : BodyFollows (BoxFrames frames panic_frames) (BoxLeaves leaves panic_leaves) (box_ends ends panic_ends) (BoxStands h Stands PanicStands) h
+  pub box_follows : BodyFollows (BoxFrames frames panic_frames) (BoxAbandons abandons panic_abandons) (box_ends ends panic_ends) (BoxStands h Stands PanicStands) h
   box_follows = record { tells = box_told; frame = box_gave; left = box_left; refused = box_refused }
 
-module _ {P B E : Type 0} (frames : Frames B (List ℕ) E) (leaves : Leaves B) (ends : B → Bool) (Stands : P → B → List ℕ → Type 0) (h : P → BodyHistory (List ℕ) E)
-    (inner : BodyFollows frames leaves ends Stands h) where
+module _ {P B E : Type 0} (frames : Frames B (List ℕ) E) (abandons : Abandons B) (ends : B → Bool) (Stands : P → B → List ℕ → Type 0) (h : P → BodyHistory (List ℕ) E)
+    (inner : BodyFollows frames abandons ends Stands h) where
   abbrev Limits : ℕ × P → Limited B → List ℕ → Type 0
   Limits = LimitedStands h Stands
 
@@ -184,7 +178,7 @@ module _ {P B E : Type 0} (frames : Frames B (List ℕ) E) (leaves : Leaves B) (
       (rw (lt-leb (length_of d.frame) b.room d.long) refl) (rw (lt-leb (length_of d.frame) b.room d.long) d.gone)
   limited_gave p past b was m (Ready (Some (Err (Inner e)))) new now l s d = passed p past b was m (Ready (Some (Err e))) (Ready (Some (Err (Inner e)))) new now l s d.0 refl d.1
 
-  pub limited_follows : BodyFollows (LimitedFrames frames) (LimitedLeaves leaves) (limited_ends ends) (LimitedStands h Stands) (λ p. limited_history p.0 (h p.1))
+  pub limited_follows : BodyFollows (LimitedFrames frames) (LimitedAbandons abandons) (limited_ends ends) (LimitedStands h Stands) (λ p. limited_history p.0 (h p.1))
   limited_follows = record {
     tells = λ p b past s. inner.tells p.1 b.body past s.inner;
     frame = limited_gave;

@@ -1,7 +1,7 @@
 -- A timer that is due stays due.
 use Rattle.std.proofs.Common.{◌≡◌, ℕ, ◌-◌, ◌≤◌, true, false, true≢false, sym, ◌∙◌, arith, ⊎_elim}
 use Rattle.std.proofs.lemmas.Bool.{and_parts, and_from, leb-true, le-leb, cases_Bool}
-use Rattle.life_core.specs.Due.{due}
+use Rattle.life_core.specs.Timer.{due}
 
 pub due_later : (start length earlier later : ℕ) → earlier ≤ later → due start length earlier ≡ true → due start length later ≡ true
 due_later start length earlier later order is = let parts = and_parts _ _ is in

@@ -1,7 +1,7 @@
 -- Bodies of one chunk, and of none.
 use Rattle.std.specs.Prelude.{◌≡◌, ℕ, Bool, List, [], ◌∷◌, length, Option, Some, None, Ok, is_none}
 use Rattle.http_body.specs.Frame.{data_frame}
-use Rattle.life_core.specs.Meaning.{Answer, Leaves}
+use Rattle.life_core.specs.Calls.{Answer, Abandons}
 use Rattle.life_core.specs.Moment.{Moment}
 use Rattle.life_core.specs.Recorded.{Recorded}
 use Rattle.life_core.specs.declared.body.empty.Empty.{Empty}
@@ -23,9 +23,9 @@ IsEmptyFull b = b ≡ full_of []
 abbrev pub empty_body : Empty
 empty_body = record {}
 
--- there is nothing to give up
-abbrev pub LeavesNothing : {B : Type 0} → Leaves B
-LeavesNothing old was m answer now = (answer ≡ Ok tt) × (now ≡ was)
+-- there is nothing to abandon
+abbrev pub NothingToAbandon : {B : Type 0} → Abandons B
+NothingToAbandon old was m answer now = (answer ≡ Ok tt) × (now ≡ was)
 
 -- the chunk, or the end where it is gone
 abbrev pub full_answer : {E : Type 0} → Option (List ℕ) → Answer (List ℕ) E

@@ -1,7 +1,7 @@
 -- How a future or a body answers over its polls: a function of the times of its polls so far, the last one first.
 use Rattle.std.specs.Prelude.{◌≡◌, ℕ, ◌+◌, ◌≤◌, ◌<◌, List, [], ◌∷◌, ◌++◌, length, Bool, true, false, Option, Result, Ok, Err, ⊤}
 use Rattle.http_body.specs.declared.frame.Frame.{Frame}
-use Rattle.life_core.specs.Meaning.{Polls, Leaves, Frames, Calls}
+use Rattle.life_core.specs.Calls.{Polls, Abandons, Frames, Calls}
 use Rattle.life_core.specs.Moment.{Moment}
 use Rattle.life_core.specs.Recorded.{Recorded}
 use Rattle.life_core.specs.declared.event.Event.{Event}
@@ -107,15 +107,15 @@ pub record FrameSteps {P B D E : Type 0} (Stands : P → B → List ℕ → Type
   pub stands : Stands p new (q ∷ past)
 
 -- a body of this plan that stands after some polls goes on by the history of the plan
-pub record BodyFollows {P B D E : Type 0} (frames : Frames B D E) (leaves : Leaves B) (ends : B → Bool)
+pub record BodyFollows {P B D E : Type 0} (frames : Frames B D E) (abandons : Abandons B) (ends : B → Bool)
     (Stands : P → B → List ℕ → Type 0) (history : P → BodyHistory D E) : Type 0 where
   pub tells : (p : P) (b : B) (past : List ℕ) → Stands p b past → ends b ≡ (history p).ends past
   pub frame : (p : P) (past : List ℕ) (b : B) (was : Recorded) (m : Moment) (a : Poll (Option (Result (Frame D) E))) (new : B) (now : Recorded) →
       Latest m.now past → Stands p b past → frames b was m (Ok a) new now → FrameSteps Stands (history p) p past was m.now a new now
   pub left : (p : P) (past : List ℕ) (b : B) (was : Recorded) (m : Moment) (u : Unit) (now : Recorded) →
-      Stands p b past → leaves b was m (Ok u) now → Adds was now ((history p).left past m.now)
+      Stands p b past → abandons b was m (Ok u) now → Adds was now ((history p).left past m.now)
   pub refused : (p : P) (past : List ℕ) (b : B) (was : Recorded) (m : Moment) (e : NoMemory) (now : Recorded) →
-      Stands p b past → leaves b was m (Err e) now → was.spare < length ((history p).left past m.now)
+      Stands p b past → abandons b was m (Err e) now → was.spare < length ((history p).left past m.now)
 
 -- one poll of a future answers and records by its history
 pub record PollSteps {H P F B X E : Type 0} (Heads : H → ResponseHead X → Type 0) (Stands : F → Where → Type 0) (BodyStands : P → B → List ℕ → Type 0) (h : FutureHistory H P E)
@@ -125,14 +125,14 @@ pub record PollSteps {H P F B X E : Type 0} (Heads : H → ResponseHead X → Ty
   pub stands : Stands new (where_after past t a)
 
 -- a future that stands after some polls goes on by its history
-pub record FutureFollows {H P F B X E : Type 0} (polls : Polls F (Result (Response B X) E)) (leaves : Leaves F) (Heads : H → ResponseHead X → Type 0)
+pub record FutureFollows {H P F B X E : Type 0} (polls : Polls F (Result (Response B X) E)) (abandons : Abandons F) (Heads : H → ResponseHead X → Type 0)
     (Stands : F → Where → Type 0) (BodyStands : P → B → List ℕ → Type 0) (h : FutureHistory H P E) : Type 0 where
   pub poll : (past : List ℕ) (f : F) (was : Recorded) (m : Moment) (a : Poll (Result (Response B X) E)) (new : F) (now : Recorded) →
       Stands f (Waiting past) → polls f was m (Ok a) new now → PollSteps Heads Stands BodyStands h past was m.now a new now
   pub left : (w : Where) (f : F) (was : Recorded) (m : Moment) (u : Unit) (now : Recorded) →
-      Stands f w → leaves f was m (Ok u) now → Adds was now (left_at h w m.now)
+      Stands f w → abandons f was m (Ok u) now → Adds was now (left_at h w m.now)
   pub refused : (w : Where) (f : F) (was : Recorded) (m : Moment) (e : NoMemory) (now : Recorded) →
-      Stands f w → leaves f was m (Err e) now → was.spare < length (left_at h w m.now)
+      Stands f w → abandons f was m (Err e) now → was.spare < length (left_at h w m.now)
 
 -- a service gives for such a request a future that stands at the time of the call, and serves on as before, also where it is refused
 pub record ServiceFollows {S R F : Type 0} (calls : Calls S R F) (Asks : R → Type 0) (Serves : S → Type 0) (Stands : ℕ → F → Where → Type 0) (events : List Event) : Type 0 where

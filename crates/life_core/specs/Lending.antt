@@ -8,7 +8,7 @@ use Rattle.http_uri.specs.contracts.uri.Uri.{the_row as uri_row}
 use Rattle.http.specs.contracts.method.Method.{the_row as method_row}
 use Rattle.http.specs.contracts.status.StatusCode.{the_row as status_row}
 use Rattle.http.specs.contracts.version.Version.{the_row as version_row}
-use Rattle.life_core.specs.Listed.{Listed}
+use Rattle.life_core.specs.List.{Listed}
 use Rattle.life_core.specs.contracts.list.List.{the_row as list_row}
 use Rattle.life_core.specs.contracts.message.Request.{the_row as request_row}
 use Rattle.life_core.specs.contracts.message.Response.{the_row as response_row}

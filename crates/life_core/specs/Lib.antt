@@ -1,6 +1,5 @@
-pub mod Boxed
-pub mod Causes
-pub mod Due
+pub mod Calls
+pub mod Faults
 pub mod Fields
 pub mod Full
 pub mod Header
@@ -9,8 +8,7 @@ pub mod Layered
 pub mod Lending
 pub mod Limited
 pub mod LimitedHistory
-pub mod Listed
-pub mod Meaning
+pub mod List
 pub mod Memory
 pub mod Message
 pub mod Moment
@@ -18,3 +16,5 @@ pub mod OneChunk
 pub mod Poll
 pub mod Recorded
 pub mod Texts
+pub mod Timer
+pub mod UnsyncBoxBody

@@ -2,7 +2,7 @@
 use Rattle.std.specs.Prelude.{◌≡◌, ℕ, ◌≤◌, ◌<◌, ◌-◌, nat_le, Bool, List, length, Option, Some, None, Ok, Err, if◌then◌else◌}
 use Rattle.http_body.specs.declared.frame.Frame.{Frame}
 use Rattle.http_body.specs.Frame.{data_of}
-use Rattle.life_core.specs.Meaning.{Frames, Leaves}
+use Rattle.life_core.specs.Calls.{Frames, Abandons}
 use Rattle.life_core.specs.Moment.{Moment}
 use Rattle.life_core.specs.Recorded.{Recorded}
 use Rattle.life_core.specs.declared.body.BodyError.{BodyError}
@@ -23,8 +23,8 @@ room_in b = b.room
 abbrev pub LimitedMay : {B : Type 0} → (B → Type 0) → Limited B → Type 0
 LimitedMay may b = may b.body
 
-abbrev pub LimitedLeaves : {B : Type 0} → Leaves B → Leaves (Limited B)
-LimitedLeaves leaves b = leaves b.body
+abbrev pub LimitedAbandons : {B : Type 0} → Abandons B → Abandons (Limited B)
+LimitedAbandons abandons b = abandons b.body
 
 abbrev pub limited_ends : {B : Type 0} → (B → Bool) → Limited B → Bool
 limited_ends ends b = ends b.body

@@ -1,7 +1,7 @@
 //! Streams of frames.
 ghost use Rattle.std.specs.Prelude.{◌≡◌, ℕ, Option, Bool};
 ghost use Rattle.life_core.specs.Moment.{moment_of, SameContext};
-ghost use Rattle.life_core.specs.Meaning.{Frames};
+ghost use Rattle.life_core.specs.Calls.{Frames};
 ghost use Rattle.http_body.specs.SizeHint.{lower, upper};
 
 mod boxed;
@@ -61,7 +61,7 @@ pub trait Body<L: Recorder>: Spend<L> {
     /// At least and at most how many bytes are left.
     ghost hints: { Self → ℕ × Option ℕ };
 
-    /// Asks for the next frame; none is the end. The one error is want of memory.
+    /// Asks for the next frame; none is the end.
     fn poll_frame(
         &mut self,
         cx: &mut Cx<'_, L>,

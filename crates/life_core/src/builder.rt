@@ -38,7 +38,7 @@ impl<L> ServiceBuilder<L> {
         }
     }
 
-    /// All layers round this service. The one error is want of memory.
+    /// All layers round this service.
     pub fn service<S: Drop>(self, alloc: Global, inner: S) -> Got<L::Service>
     where
         L: Layer<S> + Drop,

@@ -1,6 +1,6 @@
 //! Times and lengths, in whole nanoseconds.
 ghost use Rattle.std.specs.Prelude.{◌≡◌, ◌≤◌, ℕ, IsTrue, true};
-ghost use Rattle.life_core.specs.Due.{due, since};
+ghost use Rattle.life_core.specs.Timer.{due, since};
 
 /// Started at one time, for some length.
 #[derive(Clone, Copy, Debug)]

@@ -122,7 +122,7 @@ fn is_there(entries: &[Field], at: usize, name: &[u8]) -> bool
 }
 
 impl Fields {
-    /// The fields of a message. The one error is want of memory.
+    /// The fields of a message.
     pub fn of(alloc: Global, headers: &HeaderMap<HeaderValue>) -> Got<Fields>
         ensures { IfOk result (λ f. f ≡ fields headers.now) }
     {
@@ -133,7 +133,7 @@ impl Fields {
         Ok(fields)
     }
 
-    /// Puts an entry at its place, or in place of one of its name. The one error is want of memory.
+    /// Puts an entry at its place, or in place of one of its name.
     fn put(&mut self, field: Field) -> Got<()>
         ensures { OnOk result (self.new ≡ put name_cmp field.0 field.1 self.old) }
     {

@@ -2,7 +2,7 @@
 ghost use Rattle.std.specs.Prelude.{IfOk};
 ghost use Rattle.life_core.specs.Moment.{moment_of, SameContext};
 ghost use Rattle.life_core.specs.Poll.{IfReady, OnPending};
-ghost use Rattle.life_core.specs.Meaning.{Polls};
+ghost use Rattle.life_core.specs.Calls.{Polls};
 
 use crate::Got;
 use crate::context::Cx;
@@ -20,7 +20,7 @@ pub trait Future<L: Recorder>: Spend<L> {
     /// What a poll means.
     ghost polls: { Polls Self Self.Output };
 
-    /// Asks for the answer. The one error is want of memory.
+    /// Asks for the answer.
     fn poll(&mut self, cx: &mut Cx<'_, L>) -> Got<Poll<Self::Output>>
         requires live { live self.old }
         requires may { Self.may self.old }

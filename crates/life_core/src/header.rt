@@ -9,7 +9,7 @@ use crate::twin::Twin;
 use http::header::{HeaderMap, HeaderMapError, HeaderName, HeaderValue};
 use std::alloc::Global;
 
-/// The first value under the name, as one of its own. The one error is want of memory.
+/// The first value under the name, as one of its own.
 pub fn first_value(headers: &HeaderMap, name: &HeaderName) -> Got<Option<HeaderValue>>
     ensures { IfOk result (λ value. value ≡ get headers.now name.now) }
 {
@@ -33,8 +33,7 @@ fn insert_in(headers: &mut HeaderMap, key: HeaderName, value: HeaderValue) -> Go
     }
 }
 
-/// Puts the value in place of all those under the name. A map that is full stays as it is. The one error
-/// is want of memory.
+/// Puts the value in place of all those under the name. A map that is full stays as it is.
 pub fn put_value(headers: &mut HeaderMap, name: &HeaderName, value: HeaderValue) -> Got<()>
     ensures { OnOk result (headers.new ≡ put_in headers.old name.now value) }
 {

@@ -12,7 +12,7 @@ pub trait Layer<S> {
     /// The service that is made round an inner one.
     ghost round: { Self → S → Self.Service };
 
-    /// A service round `inner`. The one error is want of memory.
+    /// A service round `inner`.
     fn layer(&self, alloc: Global, inner: S) -> Got<Self::Service>
     where
         S: Drop,

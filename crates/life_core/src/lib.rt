@@ -43,7 +43,7 @@ pub use layer::{Identity, Layer, Stack};
 pub use list::List;
 pub use log::Log;
 pub use memory::{Calls, MemorySink, MemorySource};
-pub use message::{Request, RequestHead, Response, ResponseHead, give_up_request};
+pub use message::{Request, RequestHead, Response, ResponseHead, abandon_request};
 pub use outside::{Failed, Sink, Source};
 pub use poll::Poll;
 pub use recorder::{NoMemory, Recorder};
@@ -54,5 +54,5 @@ pub use spend::{Sound, Spend};
 pub use text::{Octets, Text};
 pub use twin::Twin;
 
-/// A value, or want of memory.
+/// A value, or want of memory: of what answers so, that is the one error, and it may come at any time.
 pub type Got<T> = Result<T, NoMemory>;

@@ -17,7 +17,7 @@ pub struct List<T> {
 impl<T> Model for List<T> {
     ghost use Rattle.std.specs.Prelude.{◌-◌};
     ghost use Rattle.std.specs.Vec.{vec_capacity, vec_len};
-    ghost use Rattle.life_core.specs.Listed.{Listed, listed_coded};
+    ghost use Rattle.life_core.specs.List.{Listed, listed_coded};
 
     ghost Value = { Listed T };
 
@@ -140,7 +140,7 @@ impl<T: Drop> List<T> {
 }
 
 impl<T: Twin + Drop> List<T> {
-    /// A list of twins of the items. The one error is want of memory.
+    /// A list of twins of the items.
     pub fn twin_items(&self, alloc: Global) -> Got<List<T>>
         ensures { IfOk result (λ list. list.items ≡ self.now.items) }
     {

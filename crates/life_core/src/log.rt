@@ -18,7 +18,7 @@ pub struct Log {
 }
 
 impl Model for Log {
-    ghost use Rattle.life_core.specs.Listed.{Listed};
+    ghost use Rattle.life_core.specs.List.{Listed};
     ghost use Rattle.life_core.specs.declared.event.Event.{Event as Recordable};
 
     ghost Value = { Listed Recordable };
@@ -48,7 +48,9 @@ impl Log {
 }
 
 impl Recorder for Log {
-    ghost recorded = { λ l. record { log = l.items; spare = l.spare; rest = (0, 0, 0) } };
+    ghost use Rattle.life_core.specs.Recorded.{none_counted};
+
+    ghost recorded = { λ l. record { log = l.items; spare = l.spare; rest = none_counted } };
 
     ghost place = { λ _. [] };
 

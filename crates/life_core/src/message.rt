@@ -2,7 +2,7 @@
 ghost use Rattle.std.specs.Prelude.{◌≡◌, IfOk};
 ghost use Rattle.http.specs.Request.{IsNewHead as IsNewRequestHead};
 ghost use Rattle.http.specs.Response.{IsNewHead as IsNewResponseHead};
-ghost use Rattle.life_core.specs.Meaning.{GivenUp};
+ghost use Rattle.life_core.specs.Calls.{Abandoned};
 ghost use Rattle.life_core.specs.Message.{IsBare, IsText};
 ghost use Rattle.life_core.specs.Moment.{moment_of, SameContext};
 
@@ -175,7 +175,7 @@ impl Twin for Uri {
     }
 }
 
-/// Parts that equal these. The one error is want of memory.
+/// Parts that equal these.
 fn twin_parts(alloc: Global, parts: &RequestParts) -> Got<RequestParts>
     ensures { IfOk result (λ twin. twin ≡ parts.now) }
 {
@@ -208,13 +208,13 @@ impl<B: Twin, X: Twin + Drop> Twin for Request<B, X> {
     }
 }
 
-/// Gives up a request that no one will serve, for want of memory: its body is abandoned.
-pub fn give_up_request<B: Spend<L>, X: Drop, L: Recorder>(
+/// Abandons a request that no one will serve, for want of memory: its body is abandoned.
+pub fn abandon_request<B: Spend<L>, X: Drop, L: Recorder>(
     request: Request<B, X>,
     cx: &mut Cx<'_, L>,
 ) -> NoMemory
     requires { B.may request.body }
-    ensures left { GivenUp B.leaves request.body (L.recorded cx.old.rec.now) (moment_of cx.old) (L.recorded cx.new.rec.now) }
+    ensures left { Abandoned B.abandons request.body (L.recorded cx.old.rec.now) (moment_of cx.old) (L.recorded cx.new.rec.now) }
     ensures context { SameContext L.place cx.old cx.new }
 {
     let Request { head: _, body } = request;
@@ -245,21 +245,19 @@ impl<X> ResponseHead<X> {
     }
 
     /// The head of a plain text: this status, HTTP/1.1, the header `content-type: text/plain; charset=utf-8`
-    /// and the default extension. The one error is want of memory.
+    /// and the default extension.
     pub fn text(alloc: Global, status: StatusCode) -> Got<ResponseHead<X>>
     where
         X: Default + Drop,
         ensures { IfOk result (λ head. IsText X.is_default status head) }
     {
         let mut head = ResponseHead::bare(alloc, status);
-        match put_value(
+        put_value(
             &mut head.parts.headers,
             &CONTENT_TYPE,
             HeaderValue::from_static("text/plain; charset=utf-8"),
-        ) {
-            Ok(()) => Ok(head),
-            Err(no_memory) => Err(no_memory),
-        }
+        )?;
+        Ok(head)
     }
 
     /// The status.

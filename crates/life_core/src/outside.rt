@@ -2,7 +2,7 @@
 ghost use Rattle.std.specs.Prelude.{◌≡◌, ◌≤◌, ◌<◌, ◌-◌, ℕ, List, Option, length, IfOk, OnErr};
 ghost use Rattle.std.specs.Io.{ReadsAtMost, WritesAtMost};
 ghost use Rattle.std.specs.Io.KnownBytes.{ReadConsumes, WriteAppends};
-ghost use Rattle.life_core.specs.Causes.{Rose};
+ghost use Rattle.life_core.specs.Faults.{Rose};
 
 /// A fault of a source or a sink.
 #[derive(Clone, Copy, Debug)]

@@ -1,7 +1,7 @@
 //! Values that give a future for each request.
 ghost use Rattle.std.specs.Prelude.{IfOk};
 ghost use Rattle.life_core.specs.Moment.{moment_of, SameContext};
-ghost use Rattle.life_core.specs.Meaning.{Readies, Calls};
+ghost use Rattle.life_core.specs.Calls.{Readies, Calls};
 
 use crate::Got;
 use crate::context::Cx;

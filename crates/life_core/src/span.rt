@@ -12,7 +12,7 @@ pub struct Span {
 }
 
 impl Span {
-    /// A span of this name. The one error is want of memory.
+    /// A span of this name.
     pub fn new(alloc: Global, name: &str) -> Got<Span>
         ensures { IfOk result (λ span. span ≡ record { name = name.now }) }
     {

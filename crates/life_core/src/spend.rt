@@ -1,7 +1,7 @@
 //! Values that must be spent.
 ghost use Rattle.std.specs.Prelude.{IfOk};
 ghost use Rattle.life_core.specs.Moment.{moment_of, SameContext};
-ghost use Rattle.life_core.specs.Meaning.{Leaves};
+ghost use Rattle.life_core.specs.Calls.{Abandons};
 
 use crate::Got;
 use crate::context::Cx;
@@ -14,12 +14,12 @@ pub trait Spend<L: Recorder> {
     ghost may: { Self → Type 0 };
 
     /// What abandoning it means.
-    ghost leaves: { Leaves Self };
+    ghost abandons: { Abandons Self };
 
     /// Gives it up. It is spent whatever is answered; the one error is want of memory.
     fn abandon(self, cx: &mut Cx<'_, L>) -> Got<()>
         requires { may self }
-        ensures leaves { leaves self (L.recorded cx.old.rec.now) (moment_of cx.old) result (L.recorded cx.new.rec.now) }
+        ensures abandons { abandons self (L.recorded cx.old.rec.now) (moment_of cx.old) result (L.recorded cx.new.rec.now) }
         ensures context { SameContext L.place cx.old cx.new };
 }
 

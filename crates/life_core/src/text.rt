@@ -21,7 +21,7 @@ impl Model for Octets {
 }
 
 impl Octets {
-    /// A copy of these bytes. The one error is want of memory.
+    /// A copy of these bytes.
     pub fn copy(alloc: Global, bytes: &[u8]) -> Got<Octets>
         ensures { IfOk result (λ octets. octets ≡ bytes.now) }
     {
@@ -66,7 +66,7 @@ impl Model for Text {
 }
 
 impl Text {
-    /// A copy of this text. The one error is want of memory.
+    /// A copy of this text.
     pub fn copy(alloc: Global, text: &str) -> Got<Text>
         ensures { IfOk result (λ copy. copy ≡ text.now) }
     {

@@ -6,7 +6,7 @@ use std::alloc::Global;
 
 /// A value of which an equal one can be made.
 pub trait Twin {
-    /// An equal value. The one error is want of memory.
+    /// An equal value.
     fn twin(&self, alloc: Global) -> Got<Self>
         ensures { IfOk result (λ twin. twin ≡ self.now) };
 }

@@ -3,7 +3,7 @@ use Rattle.std.proofs.Common.{◌≡◌, ℕ, ◌<◌, List, [], ◌∷◌, ◌+
 use Rattle.std.specs.Prelude.{if◌then◌else◌, ◌||◌, IsSomeAnd}
 use Rattle.std.specs.Result.{result_and}
 use Rattle.http_body.specs.declared.frame.Frame.{Frame}
-use Rattle.life_core.specs.Meaning.{Polls, Leaves, Frames, Calls}
+use Rattle.life_core.specs.Calls.{Polls, Abandons, Frames, Calls}
 use Rattle.life_core.specs.Moment.{Moment}
 use Rattle.life_core.specs.Recorded.{Recorded}
 use Rattle.life_core.specs.declared.event.Event.{Event}
@@ -19,11 +19,11 @@ use Rattle.life_drop.specs.declared.on_early_drop.guard.OnEarlyDropGuard.{OnEarl
 use Rattle.life_drop.specs.declared.on_early_drop.body.OnEarlyDropBody.{OnEarlyDropBody}
 use Rattle.life_drop.specs.declared.on_early_drop.future.OnEarlyDropFuture.{OnEarlyDropFuture}
 use Rattle.life_drop.specs.Guard.{Drops, FiresIf, Fires, callback_of}
-use Rattle.life_drop.specs.EarlyBody.{LeavesThenFires, EarlyBodyLeaves, EarlyFrames, early_ends, is_ending_frame}
-use Rattle.life_drop.specs.EarlyFuture.{Responds, EarlyPolls, EarlyLeaves}
+use Rattle.life_drop.specs.EarlyBody.{AbandonsThenFires, EarlyBodyAbandons, EarlyFrames, early_ends, is_ending_frame}
+use Rattle.life_drop.specs.EarlyFuture.{Responds, EarlyPolls, EarlyAbandons}
 use Rattle.life_drop.specs.EarlyService.{Makes, EarlyCalls}
 use Rattle.life_drop.specs.declared.on_early_drop.service.OnEarlyDropService.{OnEarlyDropService}
-use Rattle.life_drop.specs.Stands.{DropStands, drop_history, DropBodyStands, drop_body_history, DropServes, future_guard, ended, unless_ended}
+use Rattle.life_drop.specs.History.{DropStands, drop_history, DropBodyStands, drop_body_history, DropServes, future_guard, ended, unless_ended}
 
 -- what a callback records where it is called
 pub record CallbackFollows {C : Type 0} (drops : Drops C) (fired : C → ℕ → List Event) : Type 0 where
@@ -45,21 +45,21 @@ module _ {C : Type 0} (drops : Drops C) (fired : C → ℕ → List Event) (hook
   fires_refused (Some c) was t e now f = hook.refused c was t e now f
 
   -- an inner value that records these, and then a guard
-  then_adds : {S : Type 0} (leaves : Leaves S) (s : S) (g : OnEarlyDropGuard C) (was : Recorded) (m : Moment) (now : Recorded) (es : List Event) →
-      ((u : Unit) (mid : Recorded) → leaves s was m (Ok u) mid → Adds was mid es) → (u : Unit) → LeavesThenFires leaves drops s g was m (Ok u) now → Adds was now (es ++ fires fired (callback_of g) m.now)
-  then_adds leaves s g was m now es inner u l = go l.left l.fired l.leaving l.firing l.answer_is
+  then_adds : {S : Type 0} (abandons : Abandons S) (s : S) (g : OnEarlyDropGuard C) (was : Recorded) (m : Moment) (now : Recorded) (es : List Event) →
+      ((u : Unit) (mid : Recorded) → abandons s was m (Ok u) mid → Adds was mid es) → (u : Unit) → AbandonsThenFires abandons drops s g was m (Ok u) now → Adds was now (es ++ fires fired (callback_of g) m.now)
+  then_adds abandons s g was m now es inner u l = go l.left l.fired l.leaving l.firing l.answer_is
     where
-      go : (a b : Result Unit NoMemory) → leaves s was m a l.between → Fires drops g m.now l.between b now → Ok u ≡ result_and a b → Adds was now (es ++ fires fired (callback_of g) m.now)
+      go : (a b : Result Unit NoMemory) → abandons s was m a l.between → Fires drops g m.now l.between b now → Ok u ≡ result_and a b → Adds was now (es ++ fires fired (callback_of g) m.now)
       go (Ok v) (Ok x) f h e = adds_then was l.between now es (fires fired (callback_of g) m.now) (inner v l.between f) (fires_adds (callback_of g) l.between m.now x now h)
       go (Ok v) (Err x) f h e = absurd cc
       go (Err v) b f h e = absurd cc
 
-  then_refused : {S : Type 0} (leaves : Leaves S) (s : S) (g : OnEarlyDropGuard C) (was : Recorded) (m : Moment) (now : Recorded) (es : List Event) →
-      ((u : Unit) (mid : Recorded) → leaves s was m (Ok u) mid → Adds was mid es) → ((e : NoMemory) (mid : Recorded) → leaves s was m (Err e) mid → was.spare < length es) →
-      (e : NoMemory) → LeavesThenFires leaves drops s g was m (Err e) now → was.spare < length (es ++ fires fired (callback_of g) m.now)
-  then_refused leaves s g was m now es inner refused x l = go l.left l.fired l.leaving l.firing l.answer_is
+  then_refused : {S : Type 0} (abandons : Abandons S) (s : S) (g : OnEarlyDropGuard C) (was : Recorded) (m : Moment) (now : Recorded) (es : List Event) →
+      ((u : Unit) (mid : Recorded) → abandons s was m (Ok u) mid → Adds was mid es) → ((e : NoMemory) (mid : Recorded) → abandons s was m (Err e) mid → was.spare < length es) →
+      (e : NoMemory) → AbandonsThenFires abandons drops s g was m (Err e) now → was.spare < length (es ++ fires fired (callback_of g) m.now)
+  then_refused abandons s g was m now es inner refused x l = go l.left l.fired l.leaving l.firing l.answer_is
     where
-      go : (a b : Result Unit NoMemory) → leaves s was m a l.between → Fires drops g m.now l.between b now → Err x ≡ result_and a b → was.spare < length (es ++ fires fired (callback_of g) m.now)
+      go : (a b : Result Unit NoMemory) → abandons s was m a l.between → Fires drops g m.now l.between b now → Err x ≡ result_and a b → was.spare < length (es ++ fires fired (callback_of g) m.now)
       go (Ok v) (Ok y) f h e = absurd cc
       go (Ok v) (Err y) f h e = rw length-append (omega (arith, (inner v l.between f).grew.spare, fires_refused (callback_of g) l.between m.now y now h))
       go (Err v) b f h e = rw length-append (omega (arith, refused v l.between f))
@@ -68,11 +68,11 @@ module _ {C : Type 0} (drops : Drops C) (fired : C → ℕ → List Event) (hook
 pub record RespondFollows {G H I X K : Type 0} (Heads : G → ResponseHead X → Type 0) (responds : Responds H I X K) (begun : I) (given : G → K) : Type 0 where
   pub gives : (hook : H) (i : I) (g : G) (head : ResponseHead X) (made : K) (new : H) → i ≡ begun → Heads g head → responds hook i head (Ok made) new → made ≡ given g
 
-module _ {G P F B D E X T H I C K : Type 0} (Q : Type 0) (polls : Polls F (Result (Response B X) T)) (leaves : Leaves F) (frames : Frames B D E) (body_leaves : Leaves B) (ends : B → Bool)
+module _ {G P F B D E X T H I C K : Type 0} (Q : Type 0) (polls : Polls F (Result (Response B X) T)) (abandons : Abandons F) (frames : Frames B D E) (body_abandons : Abandons B) (ends : B → Bool)
     (Heads : G → ResponseHead X → Type 0) (Stands : F → Where → Type 0) (BodyStands : P → B → List ℕ → Type 0) (h : FutureHistory G P T) (hb : P → BodyHistory D E)
     (responds : Responds H I X K) (begun : I) (given : G → K) (hook : RespondFollows Heads responds begun given)
     (drops : Drops C) (callback : C) (fired : C → ℕ → List Event) (callbacks : CallbackFollows drops fired)
-    (inner : FutureFollows polls leaves Heads Stands BodyStands h) (body : BodyFollows frames body_leaves ends BodyStands hb) where
+    (inner : FutureFollows polls abandons Heads Stands BodyStands h) (body : BodyFollows frames body_abandons ends BodyStands hb) where
   abbrev BS : G × P → OnEarlyDropBody B K → List ℕ → Type 0
   BS = DropBodyStands given hb BodyStands
 
@@ -108,7 +108,7 @@ module _ {G P F B D E X T H I C K : Type 0} (Q : Type 0) (polls : Polls F (Resul
   responded (Some i) R e r = (i, some_is e, r)
 
   step : (past : List ℕ) (f : OnEarlyDropFuture F C H I Q) (was : Recorded) (m : Moment) (a : Poll (Result (Response (OnEarlyDropBody B K) X) T)) (new : OnEarlyDropFuture F C H I Q) (now : Recorded) →
-      Here f (Waiting past) → EarlyPolls polls responds ends body_leaves f was m (Ok a) new now → PollSteps Heads Here BS (drop_history (fired callback) h) past was m.now a new now
+      Here f (Waiting past) → EarlyPolls polls responds ends body_abandons f was m (Ok a) new now → PollSteps Heads Here BS (drop_history (fired callback) h) past was m.now a new now
   step past f was m (Ready (Ok r)) new now s d = let i = inner.poll past f.inner was m _ new.inner now s.inner d.inner in
       let k = responded f.intermediate _ s.begun_is d.callback.1.hook in record {
         answer = gave (h.says past m.now) r f.on_body_drop new.on_body_drop k.0 d.callback.0 k.1 k.2 d.callback.2 i.answer;
@@ -130,18 +130,18 @@ module _ {G P F B D E X T H I C K : Type 0} (Q : Type 0) (polls : Polls F (Resul
   future_events (Waiting past) g t e = rw e
   future_events Answered g t e = rw e
 
-  pub drop_follows : FutureFollows (EarlyPolls polls responds ends body_leaves) (EarlyLeaves leaves drops) Heads Here BS (drop_history (fired callback) h)
+  pub drop_follows : FutureFollows (EarlyPolls polls responds ends body_abandons) (EarlyAbandons abandons drops) Heads Here BS (drop_history (fired callback) h)
   drop_follows = record {
     poll = step;
     left = λ w f was m u now s d. subst (λ es. Adds was now es) (future_events w (callback_of f.guard) m.now s.guard_is)
-        (then_adds drops fired callbacks leaves f.inner f.guard was m now (left_at h w m.now) (λ v mid l. inner.left w f.inner was m v mid s.inner l) u d);
+        (then_adds drops fired callbacks abandons f.inner f.guard was m now (left_at h w m.now) (λ v mid l. inner.left w f.inner was m v mid s.inner l) u d);
     refused = λ w f was m e now s d. subst (λ es. was.spare < length es) (future_events w (callback_of f.guard) m.now s.guard_is)
-        (then_refused drops fired callbacks leaves f.inner f.guard was m now (left_at h w m.now) (λ v mid l. inner.left w f.inner was m v mid s.inner l) (λ x mid l. inner.refused w f.inner was m x mid s.inner l) e d);
+        (then_refused drops fired callbacks abandons f.inner f.guard was m now (left_at h w m.now) (λ v mid l. inner.left w f.inner was m v mid s.inner l) (λ x mid l. inner.refused w f.inner was m x mid s.inner l) e d);
   }
 
-module _ {G P B D E K : Type 0} (frames : Frames B D E) (body_leaves : Leaves B) (ends : B → Bool)
+module _ {G P B D E K : Type 0} (frames : Frames B D E) (body_abandons : Abandons B) (ends : B → Bool)
     (BodyStands : P → B → List ℕ → Type 0) (hb : P → BodyHistory D E) (given : G → K) (drops : Drops K) (fired : K → ℕ → List Event) (callbacks : CallbackFollows drops fired)
-    (body : BodyFollows frames body_leaves ends BodyStands hb) where
+    (body : BodyFollows frames body_abandons ends BodyStands hb) where
   abbrev HereBody : G × P → OnEarlyDropBody B K → List ℕ → Type 0
   HereBody = DropBodyStands given hb BodyStands
 
@@ -168,14 +168,14 @@ module _ {G P B D E K : Type 0} (frames : Frames B D E) (body_leaves : Leaves B)
         };
       }
 
-  pub drop_body_follows : BodyFollows (EarlyFrames frames ends) (EarlyBodyLeaves body_leaves drops) (early_ends ends) HereBody (drop_body_history (λ g t. fired (given g) t) hb)
+  pub drop_body_follows : BodyFollows (EarlyFrames frames ends) (EarlyBodyAbandons body_abandons drops) (early_ends ends) HereBody (drop_body_history (λ g t. fired (given g) t) hb)
   drop_body_follows = record {
     tells = λ p b past s. body.tells p.1 b.inner past s.inner;
     frame = frame_step;
     left = λ p past b was m u now s d. subst (λ es. Adds was now ((hb p.1).left past m.now ++ es)) (body_events (ended (hb p.1) past) (given p.0) (callback_of b.guard) m.now s.guard_is)
-        (then_adds drops fired callbacks body_leaves b.inner b.guard was m now ((hb p.1).left past m.now) (λ v mid l. body.left p.1 past b.inner was m v mid s.inner l) u d);
+        (then_adds drops fired callbacks body_abandons b.inner b.guard was m now ((hb p.1).left past m.now) (λ v mid l. body.left p.1 past b.inner was m v mid s.inner l) u d);
     refused = λ p past b was m e now s d. subst (λ es. was.spare < length ((hb p.1).left past m.now ++ es)) (body_events (ended (hb p.1) past) (given p.0) (callback_of b.guard) m.now s.guard_is)
-        (then_refused drops fired callbacks body_leaves b.inner b.guard was m now ((hb p.1).left past m.now) (λ v mid l. body.left p.1 past b.inner was m v mid s.inner l) (λ x mid l. body.refused p.1 past b.inner was m x mid s.inner l) e d);
+        (then_refused drops fired callbacks body_abandons b.inner b.guard was m now ((hb p.1).left past m.now) (λ v mid l. body.left p.1 past b.inner was m v mid s.inner l) (λ x mid l. body.refused p.1 past b.inner was m x mid s.inner l) e d);
   }
 
 -- what a hook gives at the call, by its time
@@ -186,16 +186,16 @@ made_is : {A : Type 0} (o : Option A) (a : A) (P : A → Type 0) → ((x : A) �
 made_is None a P h s = absurd s
 made_is (Some x) a P h s = ap (λ y. Some y) (h x s)
 
-module _ {S A H F B X C I : Type 0} (calls : Calls S (Request B X) F) (leaves : Leaves B) (Wanted : Request B X → Type 0) (Serves : S → Type 0) (Stands : ℕ → F → Where → Type 0) (es : List Event)
+module _ {S A H F B X C I : Type 0} (calls : Calls S (Request B X) F) (abandons : Abandons B) (Wanted : Request B X → Type 0) (Serves : S → Type 0) (Stands : ℕ → F → Where → Type 0) (es : List Event)
     (makes : Makes A B X C) (callback : ℕ → C) (future_hook : MakeFollows makes callback) (starts : Makes H B X I) (begun : ℕ → I) (body_hook : MakeFollows starts begun)
     (inner : ServiceFollows calls Wanted Serves Stands es) where
   refuses : (s : OnEarlyDropService S A H) (req : Request B X) (was : Recorded) (m : Moment) (e : NoMemory) (new : OnEarlyDropService S A H) (now : Recorded) →
-      DropServes Serves s → EarlyCalls calls makes starts leaves s req was m (Err e) new now → DropServes Serves new
+      DropServes Serves s → EarlyCalls calls makes starts abandons s req was m (Err e) new now → DropServes Serves new
   refuses s req was m e new now k (inl d) = rw d.same k
   refuses s req was m e new now k (inr (inl d)) = rw d.same k
   refuses s req was m e new now k (inr (inr d)) = inner.refused s.inner req was m e new.inner now k d.inner
 
-  pub drop_serves : ServiceFollows (EarlyCalls calls makes starts leaves) Wanted (DropServes Serves) (λ t. DropStands (callback t) (begun t) (Stands t)) es
+  pub drop_serves : ServiceFollows (EarlyCalls calls makes starts abandons) Wanted (DropServes Serves) (λ t. DropStands (callback t) (begun t) (Stands t)) es
   drop_serves = record {
     call = λ s req was m f new now q k c. let i = inner.call s.inner req was m f.inner new.inner now q k c.inner in (
       i.0,

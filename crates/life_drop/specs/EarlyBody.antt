@@ -1,7 +1,7 @@
 -- What `OnEarlyDropBody` does: the inner answers; an ending one completes its guard.
 use Rattle.std.specs.Prelude.{◌≡◌, ℕ, Bool, true, false, Option, Some, None, Result, Ok, Err, if◌then◌else◌}
 use Rattle.std.specs.Result.{result_and}
-use Rattle.life_core.specs.Meaning.{Leaves, Frames, Answer}
+use Rattle.life_core.specs.Calls.{Abandons, Frames, Answer}
 use Rattle.life_core.specs.Moment.{Moment}
 use Rattle.life_core.specs.Recorded.{Recorded}
 use Rattle.life_core.specs.declared.poll.Poll.{Poll}
@@ -23,18 +23,18 @@ early_ends ends b = ends b.inner
 abbrev pub early_hints : {B C : Type 0} → (B → ℕ × Option ℕ) → OnEarlyDropBody B C → ℕ × Option ℕ
 early_hints hints b = hints b.inner
 
--- the inner value is given up, and then the guard fires, whatever the first answered
-pub record LeavesThenFires {B C : Type 0} (leaves : Leaves B) (drops : Drops C) (inner : B) (guard : OnEarlyDropGuard C)
+-- the inner value is abandoned, and then the guard fires, whatever the first answered
+pub record AbandonsThenFires {B C : Type 0} (abandons : Abandons B) (drops : Drops C) (inner : B) (guard : OnEarlyDropGuard C)
     (was : Recorded) (m : Moment) (answer : Result Unit NoMemory) (now : Recorded) : Type 0 where
   pub between : Recorded
   pub left : Result Unit NoMemory
   pub fired : Result Unit NoMemory
-  pub leaving : leaves inner was m left between
+  pub leaving : abandons inner was m left between
   pub firing : Fires drops guard m.now between fired now
   pub answer_is : answer ≡ result_and left fired
 
-abbrev pub EarlyBodyLeaves : {B C : Type 0} → Leaves B → Drops C → Leaves (OnEarlyDropBody B C)
-EarlyBodyLeaves leaves drops b = LeavesThenFires leaves drops b.inner b.guard
+abbrev pub EarlyBodyAbandons : {B C : Type 0} → Abandons B → Drops C → Abandons (OnEarlyDropBody B C)
+EarlyBodyAbandons abandons drops b = AbandonsThenFires abandons drops b.inner b.guard
 
 -- whether an answer is an ending one, where the body then tells this of its end
 abbrev pub is_ending_frame : {D E : Type 0} → Poll (Option (Result D E)) → Bool → Bool

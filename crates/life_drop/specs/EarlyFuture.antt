@@ -1,6 +1,6 @@
 -- What `OnEarlyDropFuture` does: the inner answers; any of them completes its guard, and a response's body gets one.
 use Rattle.std.specs.Prelude.{◌≡◌, Bool, ◌⊎◌, Some, None, Result, Ok, Err, IsSomeAnd, if◌then◌else◌}
-use Rattle.life_core.specs.Meaning.{Polls, Leaves}
+use Rattle.life_core.specs.Calls.{Polls, Abandons}
 use Rattle.life_core.specs.Moment.{Moment}
 use Rattle.life_core.specs.Recorded.{Recorded}
 use Rattle.life_core.specs.declared.message.Response.{Response}
@@ -9,7 +9,7 @@ use Rattle.life_core.specs.declared.poll.Poll.TheVariants.{Ready, Pending}
 use Rattle.life_core.specs.declared.recorder.NoMemory.{NoMemory}
 use Rattle.life_drop.specs.declared.on_early_drop.body.OnEarlyDropBody.{OnEarlyDropBody}
 use Rattle.life_drop.specs.declared.on_early_drop.future.OnEarlyDropFuture.{OnEarlyDropFuture}
-use Rattle.life_drop.specs.EarlyBody.{LeavesThenFires}
+use Rattle.life_drop.specs.EarlyBody.{AbandonsThenFires}
 use Rattle.life_drop.specs.Guard.{Drops, GuardMay, IsArmed, IsDisarmed, callback_of}
 
 pub record IsWatched {F C H I Q : Type 0} (inner : F) (callback : C) (on_body_drop : H) (intermediate : I) (made : OnEarlyDropFuture F C H I Q) : Type 0 where
@@ -24,15 +24,15 @@ EarlyFutureMay may callback_may hook_may f = may f.inner × GuardMay callback_ma
 abbrev pub EarlyFutureLive : {F C H I Q : Type 0} → (F → Type 0) → (I → Type 0) → OnEarlyDropFuture F C H I Q → Type 0
 EarlyFutureLive live may_respond f = live f.inner × IsSomeAnd f.intermediate may_respond
 
-abbrev pub EarlyLeaves : {F C H I Q : Type 0} → Leaves F → Drops C → Leaves (OnEarlyDropFuture F C H I Q)
-EarlyLeaves leaves drops f = LeavesThenFires leaves drops f.inner f.guard
+abbrev pub EarlyAbandons : {F C H I Q : Type 0} → Abandons F → Drops C → Abandons (OnEarlyDropFuture F C H I Q)
+EarlyAbandons abandons drops f = AbandonsThenFires abandons drops f.inner f.guard
 
 -- what a body hook does at the response
 abbrev pub Responds : Type 0 → Type 0 → Type 0 → Type 0 → Type 1
 Responds H I X C = H → I → ResponseHead X → Result C NoMemory → H → Type 0
 
 module _ {F C H I Q K B X E : Type 0} (polls : Polls F (Result (Response B X) E)) (responds : Responds H I X K)
-    (ends : B → Bool) (leaves : Leaves B) where
+    (ends : B → Bool) (abandons : Abandons B) where
   -- the watch of the future is over, and the hook is asked for the body's callback
   pub record Asks (old : OnEarlyDropFuture F C H I Q) (head : ResponseHead X) (made : Result K NoMemory)
       (new : OnEarlyDropFuture F C H I Q) : Type 0 where
@@ -47,7 +47,7 @@ module _ {F C H I Q K B X E : Type 0} (polls : Polls F (Result (Response B X) E)
     pub callback : (made : K) × Asks old r.head (Ok made) new
         × (callback_of r.body.guard ≡ (if ends r.body.inner then None else Some made))
 
-  -- the hook finds no memory: the body is given up
+  -- the hook finds no memory: the body is abandoned
   pub record Refuses (old : OnEarlyDropFuture F C H I Q) (was : Recorded) (m : Moment) (e : NoMemory)
       (new : OnEarlyDropFuture F C H I Q) (now : Recorded) : Type 0 where
     pub response : Response B X
@@ -55,7 +55,7 @@ module _ {F C H I Q K B X E : Type 0} (polls : Polls F (Result (Response B X) E)
     pub left : Result Unit NoMemory
     pub inner : polls old.inner was m (Ok (Ready (Ok response))) new.inner between
     pub asks : Asks old response.head (Err e) new
-    pub leaving : leaves response.body between m left now
+    pub leaving : abandons response.body between m left now
 
   abbrev pub EarlyPolls : Polls (OnEarlyDropFuture F C H I Q) (Result (Response (OnEarlyDropBody B K) X) E)
   EarlyPolls old was m (Ok Pending) new now =

@@ -1,10 +1,9 @@
 -- What `OnEarlyDropService` does: it asks both hooks and then calls the inner service.
 use Rattle.std.specs.Prelude.{◌≡◌, ◌⊎◌, Result, Ok, Err, IsSomeAnd}
-use Rattle.life_core.specs.Meaning.{Leaves, Readies, Calls, GivenUp}
+use Rattle.life_core.specs.Calls.{Forwards, Abandons, Readies, Calls, Abandoned}
 use Rattle.life_core.specs.Moment.{Moment}
 use Rattle.life_core.specs.Recorded.{Recorded}
 use Rattle.life_core.specs.declared.message.Request.{Request}
-use Rattle.life_core.specs.declared.poll.Poll.{Poll}
 use Rattle.life_core.specs.declared.recorder.NoMemory.{NoMemory}
 use Rattle.life_drop.specs.declared.on_early_drop.future.OnEarlyDropFuture.{OnEarlyDropFuture}
 use Rattle.life_drop.specs.declared.on_early_drop.service.OnEarlyDropService.{OnEarlyDropService}
@@ -23,13 +22,11 @@ EarlyMay may future_may body_may s = may s.inner × future_may s.on_future_drop 
 abbrev pub Makes : Type 0 → Type 0 → Type 0 → Type 0 → Type 1
 Makes H B X C = H → Request B X → Moment → Result C NoMemory → H → Type 0
 
-pub record EarlyReadies {S A H E : Type 0} (readies : Readies S E) (old : OnEarlyDropService S A H) (was : Recorded) (m : Moment)
-    (answer : Poll (Result Unit E)) (new : OnEarlyDropService S A H) (now : Recorded) : Type 0 where
-  pub inner : readies old.inner was m answer new.inner now
-  pub same : new ≡ record old { inner = new.inner }
+abbrev pub EarlyReadies : {S A H E : Type 0} → Readies S E → Readies (OnEarlyDropService S A H) E
+EarlyReadies = Forwards early_inner (λ s inner. record s { inner = inner })
 
 module _ {S A H B X F K I : Type 0} (calls : Calls S (Request B X) F) (makes : Makes A B X K) (starts : Makes H B X I)
-    (leaves : Leaves B) where
+    (abandons : Abandons B) where
   -- both hooks gave their part, in order, and then the inner service its future
   pub record CallGives (old : OnEarlyDropService S A H) (req : Request B X) (was : Recorded) (m : Moment)
       (f : OnEarlyDropFuture F K H I B) (new : OnEarlyDropService S A H) (now : Recorded) : Type 0 where
@@ -44,7 +41,7 @@ module _ {S A H B X F K I : Type 0} (calls : Calls S (Request B X) F) (makes : M
     pub no_memory : NoMemory
     pub future_hook : makes old.on_future_drop req m (Err no_memory) new.on_future_drop
     pub same : new ≡ record old { on_future_drop = new.on_future_drop }
-    pub left : GivenUp leaves req.body was m now
+    pub left : Abandoned abandons req.body was m now
 
   -- the body's hook, or its twin, finds no memory
   pub record BodyHookRefuses (old : OnEarlyDropService S A H) (req : Request B X) (was : Recorded) (m : Moment)
@@ -54,7 +51,7 @@ module _ {S A H B X F K I : Type 0} (calls : Calls S (Request B X) F) (makes : M
     pub future_hook : makes old.on_future_drop req m (Ok callback) new.on_future_drop
     pub body_hook : starts old.on_body_drop req m made new.on_body_drop
     pub same : new.inner ≡ old.inner
-    pub left : GivenUp leaves req.body was m now
+    pub left : Abandoned abandons req.body was m now
 
   -- the inner service finds no memory
   pub record InnerRefuses (old : OnEarlyDropService S A H) (req : Request B X) (was : Recorded) (m : Moment) (e : NoMemory)

@@ -1,6 +1,6 @@
 -- What `NoteDrop` does: it records the drop, with the time since the call.
 use Rattle.std.specs.Prelude.{◌≡◌, ℕ, Result, Ok}
-use Rattle.life_core.specs.Due.{since}
+use Rattle.life_core.specs.Timer.{since}
 use Rattle.life_core.specs.Moment.{Moment}
 use Rattle.life_core.specs.Recorded.{Recorded, Notes}
 use Rattle.life_core.specs.declared.event.Event.{Event}

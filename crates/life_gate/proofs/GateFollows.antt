@@ -3,7 +3,7 @@ use Rattle.std.proofs.Common.{◌≡◌, ℕ, ◌<◌, List, [], length, Bool, t
 use Rattle.std.specs.Prelude.{⊤}
 use Rattle.life_core.proofs.Growth.{adds_none}
 use Rattle.life_core.specs.History.{Adds, BodyHistory, BodyFollows, FutureHistory, FutureFollows, Where, Waiting, Answered, Matches, where_after, left_at, ServiceFollows, answers_instead, records_unless}
-use Rattle.life_core.specs.Meaning.{Polls, Leaves, Frames, Calls, Reply}
+use Rattle.life_core.specs.Calls.{Polls, Abandons, Frames, Calls, Reply}
 use Rattle.life_core.specs.Message.{IsBare}
 use Rattle.life_core.specs.Moment.{Moment}
 use Rattle.life_core.specs.Recorded.{Recorded}
@@ -14,14 +14,13 @@ use Rattle.life_core.specs.declared.message.ResponseHead.{ResponseHead}
 use Rattle.life_core.specs.declared.poll.Poll.{Poll}
 use Rattle.life_core.specs.declared.poll.Poll.TheVariants.{Ready, Pending}
 use Rattle.life_core.specs.declared.recorder.NoMemory.{NoMemory}
-use Rattle.life_gate.specs.Gate.{Validates, GateCalls, Follows, GatePolls, GateLeaves, KindPolls, KindLeaves}
+use Rattle.life_gate.specs.Gate.{Validates, GateCalls, Follows, GatePolls, GateAbandons, KindPolls, KindAbandons}
 use Rattle.life_gate.specs.Judged.{Judged, IsBareRefusal, Verdict}
 use Rattle.life_gate.specs.Required.{RequiredValidates, is_refused, required_of}
-use Rattle.life_gate.specs.Stands.{GateStands, KindStands, Refusal, GateServes, AsksPast, Judges}
+use Rattle.life_gate.specs.History.{GateStands, KindStands, Refusal, GateServes, AsksPast, Judges}
 use Rattle.life_gate.specs.declared.validate_request.future.Kind.{Kind}
 use Rattle.life_gate.specs.declared.validate_request.future.Kind.TheVariants.{Future, Error}
 use Rattle.life_gate.specs.declared.validate_request.future.ResponseFuture.{ResponseFuture}
-use Rattle.life_gate.specs.declared.validate_request.required.RequiredHeaderValue.{RequiredHeaderValue}
 use Rattle.life_gate.specs.declared.validate_request.service.ValidateRequestHeader.{ValidateRequestHeader}
 
 abbrev responds : {B X E : Type 0} → Response B X → Reply B X E
@@ -30,12 +29,12 @@ responds r = Ok (Ready (Ok r))
 same_reply : {B X E : Type 0} (q r : Response B X) → responds {E = E} q ≡ responds r → q ≡ r
 same_reply q r e = cc e
 
--- head and plan are those of the refusal; to give up its body before any poll records nothing
-module _ {H Q F B X E D A : Type 0} (polls : Polls F (Result (Response B X) E)) (leaves : Leaves F) (frames : Frames B A D) (body_leaves : Leaves B) (ends : B → Bool)
+-- head and plan are those of the refusal; to abandon its body before any poll records nothing
+module _ {H Q F B X E D A : Type 0} (polls : Polls F (Result (Response B X) E)) (abandons : Abandons F) (frames : Frames B A D) (body_abandons : Abandons B) (ends : B → Bool)
     (Heads : H → ResponseHead X → Type 0) (Stands : F → Where → Type 0) (BodyStands : Q → B → List ℕ → Type 0) (hb : Q → BodyHistory A D)
     (head : H) (plan : Q) (h : FutureHistory H Q E)
     (silent : (t : ℕ) → (hb plan).left [] t ≡ [])
-    (inner : FutureFollows polls leaves Heads Stands BodyStands h) (body : BodyFollows frames body_leaves ends BodyStands hb) where
+    (inner : FutureFollows polls abandons Heads Stands BodyStands h) (body : BodyFollows frames body_abandons ends BodyStands hb) where
   abbrev Here : Bool → Kind F B X → Where → Type 0
   Here shut = KindStands Heads BodyStands head plan shut Stands
 
@@ -64,7 +63,7 @@ module _ {H Q F B X E D A : Type 0} (polls : Polls F (Result (Response B X) E)) 
   polled false past (Error r) new was m a now s d = elim s [ ]
 
   left : (shut : Bool) (w : Where) (f : Kind F B X) (was : Recorded) (m : Moment) (u : Unit) (now : Recorded) →
-      Here shut f w → KindLeaves leaves body_leaves f was m (Ok u) now → Adds was now (left_at (history shut) w m.now)
+      Here shut f w → KindAbandons abandons body_abandons f was m (Ok u) now → Adds was now (left_at (history shut) w m.now)
   left true w (Future f) was m u now s d = elim s [ ]
   left true (Waiting past) (Error (Some r)) was m u now s d = subst (λ es. Adds was now es) (silent m.now) (body.left plan [] r.body was m u now s.1 d)
   left true Answered (Error (Some r)) was m u now s d = elim s [ ]
@@ -74,7 +73,7 @@ module _ {H Q F B X E D A : Type 0} (polls : Polls F (Result (Response B X) E)) 
   left false w (Error r) was m u now s d = elim s [ ]
 
   unable : (shut : Bool) (w : Where) (f : Kind F B X) (was : Recorded) (m : Moment) (e : NoMemory) (now : Recorded) →
-      Here shut f w → KindLeaves leaves body_leaves f was m (Err e) now → was.spare < length (left_at (history shut) w m.now)
+      Here shut f w → KindAbandons abandons body_abandons f was m (Err e) now → was.spare < length (left_at (history shut) w m.now)
   unable true w (Future f) was m e now s d = elim s [ ]
   unable true (Waiting past) (Error (Some r)) was m e now s d = subst (λ (es : List Event). was.spare < length es) (silent m.now) (body.refused plan [] r.body was m e now s.1 d)
   unable true Answered (Error (Some r)) was m e now s d = elim s [ ]
@@ -85,18 +84,18 @@ module _ {H Q F B X E D A : Type 0} (polls : Polls F (Result (Response B X) E)) 
 
   -- by whether the request was refused
   pub gate_follows : (shut : Bool) →
-      FutureFollows (GatePolls polls) (GateLeaves leaves body_leaves) Heads (GateStands shut Heads BodyStands head plan Stands) BodyStands (answers_instead shut head plan h)
+      FutureFollows (GatePolls polls) (GateAbandons abandons body_abandons) Heads (GateStands shut Heads BodyStands head plan Stands) BodyStands (answers_instead shut head plan h)
   gate_follows shut = record {
     poll = λ past f was m a new now s d. let r = polled shut past f.kind new.kind was m a now s d in record { answer = r.0; adds = r.1; stands = r.2 };
     left = λ w f was m u now s d. left shut w f.kind was m u now s d;
     refused = λ w f was m e now s d. unable shut w f.kind was m e now s d;
   }
 
--- quiet: to give up a request's body records nothing
-module _ {H Q S V B P X F : Type 0} (calls : Calls S (Request B X) F) (validates : Validates V B P X) (leaves : Leaves B) (body_leaves : Leaves P)
+-- quiet: to abandon a request's body records nothing
+module _ {H Q S V B P X F : Type 0} (calls : Calls S (Request B X) F) (validates : Validates V B P X) (abandons : Abandons B) (body_abandons : Abandons P)
     (Asks : Request B X → Type 0) (Serves : S → Type 0) (Stands : ℕ → F → Where → Type 0) (es : List Event)
     (Keeps : V → Type 0) (refuses : Request B X → Bool) (Heads : H → ResponseHead X → Type 0) (BodyStands : Q → P → List ℕ → Type 0) (head : H) (plan : Q)
-    (quiet : (body : B) (was : Recorded) (m : Moment) (u : Unit) (now : Recorded) → leaves body was m (Ok u) now → Adds was now [])
+    (quiet : (body : B) (was : Recorded) (m : Moment) (u : Unit) (now : Recorded) → abandons body was m (Ok u) now → Adds was now [])
     (judges : Judges validates Keeps refuses Heads BodyStands head plan)
     (inner : ServiceFollows calls Asks Serves Stands es) where
   abbrev Served : Bool → S → Moment → ResponseFuture F P X → Recorded → Recorded → Type 0
@@ -106,7 +105,7 @@ module _ {H Q S V B P X F : Type 0} (calls : Calls S (Request B X) F) (validates
   JudgedTo shut verdict = Judged (shut ≡ false) (shut ≡ true) (Refusal Heads BodyStands head plan) verdict
 
   gives : (shut : Bool) (verdict : Verdict P X) (s new : S) (req seen : Request B X) (was : Recorded) (m : Moment) (f : ResponseFuture F P X) (now : Recorded) →
-      JudgedTo shut verdict → seen ≡ req → (shut ≡ false → Asks req) → Serves s → Follows calls validates leaves body_leaves verdict s seen was m (Ok f) new now →
+      JudgedTo shut verdict → seen ≡ req → (shut ≡ false → Asks req) → Serves s → Follows calls validates abandons body_abandons verdict s seen was m (Ok f) new now →
       Served shut new m f was now
   gives true (Ok (Ok u)) s new req seen was m f now j e asks k d = absurd (cc j)
   gives true (Ok (Err r)) s new req seen was m f now j e asks k d = (rw d.1 k, rw d.0.1 j.1, quiet seen.body was m tt now d.0.0)
@@ -117,18 +116,18 @@ module _ {H Q S V B P X F : Type 0} (calls : Calls S (Request B X) F) (validates
   gives false (Err x) s new req seen was m f now j e asks k d = absurd (cc d.0)
 
   stays : (verdict : Verdict P X) (s new : S) (seen : Request B X) (was : Recorded) (m : Moment) (e : NoMemory) (now : Recorded) →
-      Serves s → Follows calls validates leaves body_leaves verdict s seen was m (Err e) new now → Serves new
+      Serves s → Follows calls validates abandons body_abandons verdict s seen was m (Err e) new now → Serves new
   stays (Ok (Ok u)) s new seen was m e now k d = inner.refused s seen was m e new now k d
   stays (Ok (Err r)) s new seen was m e now k d = rw d.1 k
   stays (Err x) s new seen was m e now k d = rw d.2 k
 
   serves_on : (s : ValidateRequestHeader S V) (req : Request B X) (was : Recorded) (m : Moment) (answer : Result (ResponseFuture F P X) NoMemory) (new : ValidateRequestHeader S V) (now : Recorded) →
-      GateServes Keeps Serves s → GateCalls calls validates leaves body_leaves s req was m answer new now → Serves new.inner → GateServes Keeps Serves new
+      GateServes Keeps Serves s → GateCalls calls validates abandons body_abandons s req was m answer new now → Serves new.inner → GateServes Keeps Serves new
   serves_on s req was m answer new now k c i = record { validate = judges.keeps s.validate req c.verdict new.validate c.seen k.validate c.validated; inner = i }
 
   -- by whether the requests are refused
   pub gate_serves : (shut : Bool) →
-      ServiceFollows (GateCalls calls validates leaves body_leaves) (AsksPast shut refuses Asks) (GateServes Keeps Serves) (λ t. GateStands shut Heads BodyStands head plan (Stands t)) (records_unless shut es)
+      ServiceFollows (GateCalls calls validates abandons body_abandons) (AsksPast shut refuses Asks) (GateServes Keeps Serves) (λ t. GateStands shut Heads BodyStands head plan (Stands t)) (records_unless shut es)
   gate_serves shut = record {
     call = λ s req was m f new now q k c.
         let a = rw q.0 at (judges.judged s.validate req c.verdict new.validate c.seen k.validate c.validated) in
@@ -138,27 +137,27 @@ module _ {H Q S V B P X F : Type 0} (calls : Calls S (Request B X) F) (validates
     refused = λ s req was m e new now k c. serves_on s req was m (Err e) new now k c (stays c.verdict s.inner new.inner c.seen was m e now k.inner c.follows);
   }
 
-module _ {H Q S V B P X F : Type 0} (calls : Calls S (Request B X) F) (validates : Validates V B P X) (leaves : Leaves B) (body_leaves : Leaves P)
+module _ {H Q S V B P X F : Type 0} (calls : Calls S (Request B X) F) (validates : Validates V B P X) (abandons : Abandons B) (body_abandons : Abandons P)
     (Serves : S → Type 0) (Any : ℕ → F → Where → Type 0) (Keeps : V → Type 0) (refuses : Request B X → Bool)
     (Heads : H → ResponseHead X → Type 0) (BodyStands : Q → P → List ℕ → Type 0) (head : H) (plan : Q)
-    (quiet : (body : B) (was : Recorded) (m : Moment) (u : Unit) (now : Recorded) → leaves body was m (Ok u) now → Adds was now [])
+    (quiet : (body : B) (was : Recorded) (m : Moment) (u : Unit) (now : Recorded) → abandons body was m (Ok u) now → Adds was now [])
     (judges : Judges validates Keeps refuses Heads BodyStands head plan)
     (inner : ServiceFollows calls (λ req. ⊤) Serves Any []) where
   gave : (verdict : Verdict P X) (s new : S) (seen : Request B X) (was : Recorded) (m : Moment) (f : ResponseFuture F P X) (now : Recorded) →
-      Serves s → Follows calls validates leaves body_leaves verdict s seen was m (Ok f) new now → Serves new × Adds was now []
+      Serves s → Follows calls validates abandons body_abandons verdict s seen was m (Ok f) new now → Serves new × Adds was now []
   gave (Ok (Ok u)) s new seen was m f now k d = let i = inner.call s seen was m d.0 new now tt k d.1 in (i.0, i.2)
   gave (Ok (Err r)) s new seen was m f now k d = (rw d.1 k, quiet seen.body was m tt now d.0.0)
   gave (Err x) s new seen was m f now k d = absurd (cc d.0)
 
   -- whatever is asked, the service serves on as before
-  pub gate_keeps : ServiceFollows (GateCalls calls validates leaves body_leaves) (λ req. ⊤) (GateServes Keeps Serves) (λ t (f : ResponseFuture F P X) (w : Where). ⊤) []
+  pub gate_keeps : ServiceFollows (GateCalls calls validates abandons body_abandons) (λ req. ⊤) (GateServes Keeps Serves) (λ t (f : ResponseFuture F P X) (w : Where). ⊤) []
   gate_keeps = record {
     call = λ s req was m f new now q k c.
         let r = gave c.verdict s.inner new.inner c.seen was m f now k.inner c.follows in
-        (serves_on calls validates leaves body_leaves (λ req. ⊤) Serves Any [] Keeps refuses Heads BodyStands head plan quiet judges inner s req was m (Ok f) new now k c r.0, tt, r.1);
+        (serves_on calls validates abandons body_abandons (λ req. ⊤) Serves Any [] Keeps refuses Heads BodyStands head plan quiet judges inner s req was m (Ok f) new now k c r.0, tt, r.1);
     refused = λ s req was m e new now k c.
-        serves_on calls validates leaves body_leaves (λ req. ⊤) Serves Any [] Keeps refuses Heads BodyStands head plan quiet judges inner s req was m (Err e) new now k c
-        (stays calls validates leaves body_leaves (λ req. ⊤) Serves Any [] Keeps refuses Heads BodyStands head plan quiet judges inner c.verdict s.inner new.inner c.seen was m e now k.inner c.follows);
+        serves_on calls validates abandons body_abandons (λ req. ⊤) Serves Any [] Keeps refuses Heads BodyStands head plan quiet judges inner s req was m (Err e) new now k c
+        (stays calls validates abandons body_abandons (λ req. ⊤) Serves Any [] Keeps refuses Heads BodyStands head plan quiet judges inner c.verdict s.inner new.inner c.seen was m e now k.inner c.follows);
   }
 
 -- head and plan are those of a bare 403 with a default body
@@ -176,12 +175,3 @@ module _ {H Q R X : Type 0} (is_body : R → Type 0) (is_ext : X → Type 0) (na
     same = λ old req answer new seen k d. d.kept;
     judged = λ old req answer new seen k d. answers _ _ answer (rw k at d.judged);
   }
-
--- what it leaves and gives may be given up
-pub required_leaves : {R B X : Type 0} (is_body : R → Type 0) (is_ext : X → Type 0) (body_may : B → Type 0) (old : RequiredHeaderValue R) (req : Request B X)
-    (answer : Verdict R X) (new : RequiredHeaderValue R) (seen : Request B X) → body_may req.body → RequiredValidates is_body is_ext old req answer new seen → body_may seen.body
-required_leaves is_body is_ext body_may old req answer new seen m d = rw d.kept m
-
-pub required_gives : {R B X : Type 0} (is_body : R → Type 0) (is_ext : X → Type 0) (body_may : R → Type 0) → ((b : R) → is_body b → body_may b) → (old : RequiredHeaderValue R) (req : Request B X)
-    (r : Response R X) (new : RequiredHeaderValue R) (seen : Request B X) → RequiredValidates is_body is_ext old req (Ok (Err r)) new seen → body_may r.body
-required_gives is_body is_ext body_may default_may old req r new seen d = default_may r.body d.judged.1.body

@@ -107,14 +107,6 @@ kind_is text before tail kind more kind' rest' s t h =
     split_once is_token_byte tail kind more kind' (slash ∷ rest') t
     record { whole = blanks.1; passes = h.token.1; stops = slash_no_token }
 
-pub kind_found : (text before tail kind more rest : List ℕ) → IsSplit is_blank text before tail → IsSplit is_token_byte tail kind more → 0 < length kind → more ≡ slash ∷ rest → HasKind text kind rest
-kind_found text before tail kind more rest s t some e = record {
-  before = before;
-  whole = rw (s.whole, t.whole, e) refl;
-  blanks = s.passes;
-  token = (some, t.passes);
-}
-
 pub kind_once : (text kind rest kind' rest' : List ℕ) → HasKind text kind rest → HasKind text kind' rest' → (kind ≡ kind') × (rest ≡ rest')
 kind_once text kind rest kind' rest' h h' =
     let same = kind_is text h.before (kind ++ slash ∷ rest) kind (slash ∷ rest) kind' rest'
@@ -130,16 +122,6 @@ sub_is text sub tail after more sub' s t h =
     let blanks = split_once is_blank tail after more h.after h.parameters t
     record { whole = tokens.1; passes = h.blanks; stops = parameters_start h.parameters h.rest } in
     (tokens.0, subst AreParameters (sym blanks.1) h.rest)
-
-pub sub_found : (text sub tail after more : List ℕ) → IsSplit is_token_byte text sub tail → IsSplit is_blank tail after more → 0 < length sub → AreParameters more → HasSub text sub
-sub_found text sub tail after more s t some p = record {
-  after = after;
-  parameters = more;
-  whole = rw (s.whole, t.whole) refl;
-  token = (some, s.passes);
-  blanks = t.passes;
-  rest = p;
-}
 
 pub sub_once : (text sub sub' : List ℕ) → HasSub text sub → HasSub text sub' → sub ≡ sub'
 sub_once text sub sub' h h' =

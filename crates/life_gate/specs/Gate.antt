@@ -2,12 +2,11 @@
 use Rattle.std.specs.Prelude.{◌≡◌, Some, None, Result, Ok, Err, IsSome, IfSome}
 use Rattle.std.specs.Borrow.{MutBor}
 use Rattle.std.specs.Fn.{Called, Mut}
-use Rattle.life_core.specs.Meaning.{Polls, Leaves, Readies, Calls, LeavesIfAny, GivenUp}
+use Rattle.life_core.specs.Calls.{Forwards, Polls, Abandons, Readies, Calls, AbandonsIfAny, Abandoned}
 use Rattle.life_core.specs.Moment.{Moment}
 use Rattle.life_core.specs.Recorded.{Recorded}
 use Rattle.life_core.specs.declared.message.Request.{Request}
 use Rattle.life_core.specs.declared.message.Response.{Response}
-use Rattle.life_core.specs.declared.poll.Poll.{Poll}
 use Rattle.life_core.specs.declared.poll.Poll.TheVariants.{Ready}
 use Rattle.life_core.specs.declared.recorder.NoMemory.{NoMemory}
 use Rattle.life_gate.specs.Judged.{Verdict}
@@ -43,21 +42,18 @@ gate_round layer inner = gate_service inner layer.validate
 abbrev pub gate_inner : {S T : Type 0} → ValidateRequestHeader S T → S
 gate_inner s = s.inner
 
--- the inner service and the validator may be called, and what a validator leaves and gives may be given up
+-- the inner service and the validator may be called, and what a validator leaves and gives may be abandoned
 pub record GateMay {S V B P X : Type 0} (may : S → Type 0) (validate_may : V → Type 0) (validates : Validates V B P X)
     (request_body_may : B → Type 0) (refusal_body_may : P → Type 0) (s : ValidateRequestHeader S V) : Type 0 where
   pub inner : may s.inner
   pub validate : validate_may s.validate
-  pub leaves : (old : V) (req : Request B X) (answer : Verdict P X) (new : V) (seen : Request B X) →
+  pub request_may : (old : V) (req : Request B X) (answer : Verdict P X) (new : V) (seen : Request B X) →
       request_body_may req.body → validates old req answer new seen → request_body_may seen.body
-  pub gives : (old : V) (req : Request B X) (r : Response P X) (new : V) (seen : Request B X) →
+  pub refusal_may : (old : V) (req : Request B X) (r : Response P X) (new : V) (seen : Request B X) →
       request_body_may req.body → validates old req (Ok (Err r)) new seen → refusal_body_may r.body
 
--- the inner answer of readiness; the layer's own parts stay
-pub record GateReadies {S V E : Type 0} (readies : Readies S E) (old : ValidateRequestHeader S V) (was : Recorded) (m : Moment)
-    (answer : Poll (Result Unit E)) (new : ValidateRequestHeader S V) (now : Recorded) : Type 0 where
-  pub inner : readies old.inner was m answer new.inner now
-  pub same : new ≡ record old { inner = new.inner }
+abbrev pub GateReadies : {S V E : Type 0} → Readies S E → Readies (ValidateRequestHeader S V) E
+GateReadies = Forwards gate_inner (λ s inner. record s { inner = inner })
 
 -- the future over an inner one
 abbrev pub passing : {F P X : Type 0} → F → ResponseFuture F P X
@@ -72,17 +68,17 @@ abbrev pub PassedBy : {S R F P X : Type 0} → Calls S R F → S → R → Recor
 PassedBy {F = F} calls old req was m (Ok f) new now = (given : F) × calls old req was m (Ok given) new now × (f ≡ passing given)
 PassedBy calls old req was m (Err e) new now = calls old req was m (Err e) new now
 
--- the request's body is given up, and the future has the refusal; where that finds no memory, the body of the refusal is given up too
-abbrev pub RefusedBy : {F B P X : Type 0} → Leaves B → Leaves P → B → Response P X → Recorded → Moment → Result (ResponseFuture F P X) NoMemory → Recorded → Type 0
-RefusedBy leaves body_leaves body refusal was m (Ok f) now = leaves body was m (Ok tt) now × (f ≡ refusing refusal)
-RefusedBy leaves body_leaves body refusal was m (Err e) now = (between : Recorded) × leaves body was m (Err e) between × GivenUp body_leaves refusal.body between m now
+-- the request's body is abandoned, and the future has the refusal; where that finds no memory, the body of the refusal is abandoned too
+abbrev pub RefusedBy : {F B P X : Type 0} → Abandons B → Abandons P → B → Response P X → Recorded → Moment → Result (ResponseFuture F P X) NoMemory → Recorded → Type 0
+RefusedBy abandons body_abandons body refusal was m (Ok f) now = abandons body was m (Ok tt) now × (f ≡ refusing refusal)
+RefusedBy abandons body_abandons body refusal was m (Err e) now = (between : Recorded) × abandons body was m (Err e) between × Abandoned body_abandons refusal.body between m now
 
-module _ {S V B P X F : Type 0} (calls : Calls S (Request B X) F) (validates : Validates V B P X) (leaves : Leaves B) (body_leaves : Leaves P) where
+module _ {S V B P X F : Type 0} (calls : Calls S (Request B X) F) (validates : Validates V B P X) (abandons : Abandons B) (body_abandons : Abandons P) where
   -- what comes of the request that the validator left: the inner service is called where it passes, and else stays as it was
   abbrev pub Follows : Verdict P X → S → Request B X → Recorded → Moment → Result (ResponseFuture F P X) NoMemory → S → Recorded → Type 0
   Follows (Ok (Ok u)) old seen was m answer new now = PassedBy calls old seen was m answer new now
-  Follows (Ok (Err refusal)) old seen was m answer new now = RefusedBy leaves body_leaves seen.body refusal was m answer now × (new ≡ old)
-  Follows (Err e) old seen was m answer new now = (answer ≡ Err e) × GivenUp leaves seen.body was m now × (new ≡ old)
+  Follows (Ok (Err refusal)) old seen was m answer new now = RefusedBy abandons body_abandons seen.body refusal was m answer now × (new ≡ old)
+  Follows (Err e) old seen was m answer new now = (answer ≡ Err e) × Abandoned abandons seen.body was m now × (new ≡ old)
 
   pub record GateCalls (old : ValidateRequestHeader S V) (req : Request B X) (was : Recorded) (m : Moment)
       (answer : Result (ResponseFuture F P X) NoMemory) (new : ValidateRequestHeader S V) (now : Recorded) : Type 0 where
@@ -118,10 +114,10 @@ KindPolls polls (Error None) was m answer new now = ⊥
 abbrev pub GatePolls : {F P X E : Type 0} → Polls F (Result (Response P X) E) → Polls (ResponseFuture F P X) (Result (Response P X) E)
 GatePolls polls old was m answer new now = KindPolls polls old.kind was m answer new.kind now
 
-abbrev pub KindLeaves : {F P X : Type 0} → Leaves F → Leaves P → Leaves (Kind F P X)
-KindLeaves leaves body_leaves (Future f) was m answer now = leaves f was m answer now
-KindLeaves leaves body_leaves (Error refusal) was m answer now = LeavesIfAny (λ r was m answer now. body_leaves r.body was m answer now) refusal was m answer now
+abbrev pub KindAbandons : {F P X : Type 0} → Abandons F → Abandons P → Abandons (Kind F P X)
+KindAbandons abandons body_abandons (Future f) was m answer now = abandons f was m answer now
+KindAbandons abandons body_abandons (Error refusal) was m answer now = AbandonsIfAny (λ r was m answer now. body_abandons r.body was m answer now) refusal was m answer now
 
--- what is there is given up: the inner future, or the refusal's body
-abbrev pub GateLeaves : {F P X : Type 0} → Leaves F → Leaves P → Leaves (ResponseFuture F P X)
-GateLeaves leaves body_leaves old was m answer now = KindLeaves leaves body_leaves old.kind was m answer now
+-- what is there is abandoned: the inner future, or the refusal's body
+abbrev pub GateAbandons : {F P X : Type 0} → Abandons F → Abandons P → Abandons (ResponseFuture F P X)
+GateAbandons abandons body_abandons old was m answer now = KindAbandons abandons body_abandons old.kind was m answer now

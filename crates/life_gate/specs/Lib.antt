@@ -1,10 +1,10 @@
 pub mod Accept
 pub mod Accepting
 pub mod Gate
+pub mod History
 pub mod Judged
 pub mod Lending
 pub mod MediaList
 pub mod MediaType
 pub mod Required
 pub mod Scanning
-pub mod Stands

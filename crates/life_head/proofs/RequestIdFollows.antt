@@ -6,7 +6,7 @@ use Rattle.http_header.specs.HeaderMap.{get, get_all}
 use Rattle.life_core.proofs.Headers.{get_put, get_all_put_other}
 use Rattle.life_core.specs.Header.{is_full_for}
 use Rattle.life_core.specs.History.{FutureHistory, FutureFollows, PollSteps, Said, Waits, Gives, Fails, Where, Waiting, Answered, Matches, left_at, said_with, ServiceFollows}
-use Rattle.life_core.specs.Meaning.{Polls, Leaves, Calls}
+use Rattle.life_core.specs.Calls.{Polls, Abandons, Calls}
 use Rattle.life_core.specs.Moment.{Moment}
 use Rattle.life_core.specs.Recorded.{Recorded}
 use Rattle.life_core.specs.declared.event.Event.{Event}
@@ -17,21 +17,21 @@ use Rattle.life_core.specs.declared.poll.Poll.{Poll}
 use Rattle.life_core.specs.declared.poll.Poll.TheVariants.{Ready, Pending}
 use Rattle.life_core.specs.declared.recorder.NoMemory.{NoMemory}
 use Rattle.life_head.specs.Ids.{Makes, value_of, marked, marked_by, tagged, tagged_by}
-use Rattle.life_head.specs.Propagating.{PropagateCalls, PropagatePolls, PropagateLeaves}
+use Rattle.life_head.specs.Propagating.{PropagateCalls, PropagatePolls, PropagateAbandons}
 use Rattle.life_head.specs.Setting.{TagsBy, Tags, Asked, SetCalls, SetServed}
-use Rattle.life_head.specs.Stands.{PropagateStands, PropagateServes, SetServes, AsksWith, propagate_history, first_of}
+use Rattle.life_head.specs.History.{PropagateStands, PropagateServes, SetServes, AsksWith, propagate_history, first_of}
 use Rattle.life_head.specs.declared.request_id.id.RequestId.{RequestId}
 use Rattle.life_head.specs.declared.request_id.propagate.PropagateRequestId.{PropagateRequestId}
 use Rattle.life_head.specs.declared.request_id.propagating.PropagateRequestIdResponseFuture.{PropagateRequestIdResponseFuture}
 use Rattle.life_head.specs.declared.request_id.set.SetRequestId.{SetRequestId}
 
 -- Heads ties the inner head to what is said of it, Told the marked one; mark is what the id makes of what is said
-module _ {H G P F B X E : Type 0} (polls : Polls F (Result (Response B X) E)) (leaves : Leaves F) (body_leaves : Leaves B)
+module _ {H G P F B X E : Type 0} (polls : Polls F (Result (Response B X) E)) (abandons : Abandons F) (body_abandons : Abandons B)
     (holds : X → Option RequestId) (after : X → RequestId → X) (name : List ℕ) (id : Option FieldValue)
     (Heads : H → ResponseHead X → Type 0) (Told : G → ResponseHead X → Type 0) (mark : H → G)
     (told : (h : H) (head : ResponseHead X) → Heads h head → Told (mark h) (marked holds after name id head))
     (Stands : F → Where → Type 0) (BodyStands : P → B → List ℕ → Type 0) (h : FutureHistory H P E)
-    (inner : FutureFollows polls leaves Heads Stands BodyStands h) where
+    (inner : FutureFollows polls abandons Heads Stands BodyStands h) where
   gave : (s : Said H P E) (head : ResponseHead X) (r : Response B X) → r.head ≡ marked holds after name id head →
       Matches Heads BodyStands s (Ready (Ok (record { head = head; body = r.body }))) → Matches Told BodyStands (said_with mark s) (Ready (Ok r))
   gave Waits head r k m = elim m [ ]
@@ -52,7 +52,7 @@ module _ {H G P F B X E : Type 0} (polls : Polls F (Result (Response B X) E)) (l
   Here = PropagateStands name id Stands
 
   step : (past : List ℕ) (f : PropagateRequestIdResponseFuture F) (was : Recorded) (m : Moment) (a : Poll (Result (Response B X) E)) (new : PropagateRequestIdResponseFuture F) (now : Recorded) →
-      Here f (Waiting past) → PropagatePolls polls body_leaves holds after f was m (Ok a) new now → PollSteps Told Here BodyStands (propagate_history mark h) past was m.now a new now
+      Here f (Waiting past) → PropagatePolls polls body_abandons holds after f was m (Ok a) new now → PollSteps Told Here BodyStands (propagate_history mark h) past was m.now a new now
   step past f was m (Ready (Ok r)) new now s d = let i = inner.poll past f.inner was m _ new.inner now s.inner d.inner in record {
     answer = gave (h.says past m.now) d.head r (rw (s.name_is, s.kept_is) at d.marks) i.answer;
     adds = i.adds;
@@ -73,19 +73,19 @@ module _ {H G P F B X E : Type 0} (polls : Polls F (Result (Response B X) E)) (l
   same_left (Waiting past) t = refl
   same_left Answered t = refl
 
-  pub propagate_follows : FutureFollows (PropagatePolls polls body_leaves holds after) (PropagateLeaves leaves) Told (PropagateStands name id Stands) BodyStands (propagate_history mark h)
+  pub propagate_follows : FutureFollows (PropagatePolls polls body_abandons holds after) (PropagateAbandons abandons) Told (PropagateStands name id Stands) BodyStands (propagate_history mark h)
   propagate_follows = record {
     poll = step;
     left = λ w f was m u now s d. rw (same_left w m.now) (inner.left w f.inner was m u now s.inner d);
     refused = λ w f was m e now s d. rw (same_left w m.now) (inner.refused w f.inner was m e now s.inner d);
   }
 
-module _ {S B X F : Type 0} (calls : Calls S (Request B X) F) (leaves : Leaves B) (Asks : Request B X → Type 0) (Serves : S → Type 0) (Stands : ℕ → F → Where → Type 0) (es : List Event)
+module _ {S B X F : Type 0} (calls : Calls S (Request B X) F) (abandons : Abandons B) (Asks : Request B X → Type 0) (Serves : S → Type 0) (Stands : ℕ → F → Where → Type 0) (es : List Event)
     (inner : ServiceFollows calls Asks Serves Stands es) where
   serves_on : (name : List ℕ) (s new : PropagateRequestId S) → s.header_name ≡ name → new ≡ record s { inner = new.inner } → Serves new.inner → PropagateServes name Serves new
   serves_on name s new e same k = record { name_is = ap (λ x. x.header_name) same ∙ e; inner = k }
 
-  pub propagate_serves : (name : List ℕ) (id : Option FieldValue) → ServiceFollows (PropagateCalls calls leaves) (AsksWith name id Asks) (PropagateServes name Serves) (λ t. PropagateStands name id (Stands t)) es
+  pub propagate_serves : (name : List ℕ) (id : Option FieldValue) → ServiceFollows (PropagateCalls calls abandons) (AsksWith name id Asks) (PropagateServes name Serves) (λ t. PropagateStands name id (Stands t)) es
   propagate_serves name id = record {
     call = λ s req was m f new now q k c. let i = inner.call s.inner req was m f.inner new.inner now q.0 k.inner c.0 in (
       serves_on name s new k.name_is c.2 i.0,
@@ -97,13 +97,13 @@ module _ {S B X F : Type 0} (calls : Calls S (Request B X) F) (leaves : Leaves B
         (λ d. rw d.1 k) c;
   }
 
-module _ {S B X F : Type 0} (calls : Calls S (Request B X) F) (leaves : Leaves B) (Serves : S → Type 0) (Any : ℕ → F → Where → Type 0) (es : List Event)
+module _ {S B X F : Type 0} (calls : Calls S (Request B X) F) (abandons : Abandons B) (Serves : S → Type 0) (Any : ℕ → F → Where → Type 0) (es : List Event)
     (inner : ServiceFollows calls (λ req. ⊤) Serves Any es) where
   keeps_on : (name : List ℕ) (s new : PropagateRequestId S) → s.header_name ≡ name → new ≡ record s { inner = new.inner } → Serves new.inner → PropagateServes name Serves new
   keeps_on name s new e same k = record { name_is = ap (λ x. x.header_name) same ∙ e; inner = k }
 
   -- whatever is asked, the service serves on as before
-  pub propagate_keeps : (name : List ℕ) → ServiceFollows (PropagateCalls calls leaves) (λ req. ⊤) (PropagateServes name Serves) (λ t (f : PropagateRequestIdResponseFuture F) (w : Where). ⊤) es
+  pub propagate_keeps : (name : List ℕ) → ServiceFollows (PropagateCalls calls abandons) (λ req. ⊤) (PropagateServes name Serves) (λ t (f : PropagateRequestIdResponseFuture F) (w : Where). ⊤) es
   propagate_keeps name = record {
     call = λ s req was m f new now q k c. let i = inner.call s.inner req was m f.inner new.inner now tt k.inner c.0 in (keeps_on name s new k.name_is c.2 i.0, tt, i.2);
     refused = λ s req was m e new now k c. ⊎_elim
@@ -112,7 +112,7 @@ module _ {S B X F : Type 0} (calls : Calls S (Request B X) F) (leaves : Leaves B
   }
 
 -- Keeps holds of the maker at each call; Before of the requests that come, whose ids make them requests that Asks takes
-module _ {S M B X F : Type 0} (calls : Calls S (Request B X) F) (makes : Makes M B X) (holds : X → Option RequestId) (after : X → RequestId → X) (leaves : Leaves B)
+module _ {S M B X F : Type 0} (calls : Calls S (Request B X) F) (makes : Makes M B X) (holds : X → Option RequestId) (after : X → RequestId → X) (abandons : Abandons B)
     (Asks : Request B X → Type 0) (Serves : S → Type 0) (Stands : ℕ → F → Where → Type 0) (es : List Event)
     (Keeps : M → Type 0) (keeps : (maker : M) (req : Request B X) (made : Result (Option RequestId) NoMemory) (new : M) → Keeps maker → makes maker req made new → Keeps new)
     (name : List ℕ) (Before : Request B X → Type 0)
@@ -126,14 +126,14 @@ module _ {S M B X F : Type 0} (calls : Calls S (Request B X) F) (makes : Makes M
   kept_asked maker req maker_new k t = ⊎_elim (λ d. rw d k) (λ d. keeps maker req d.0 maker_new k d.1) t
 
   served : (s : SetRequestId S M) (req : Request B X) (was : Recorded) (m : Moment) (a : Result F NoMemory) (new : SetRequestId S M) (now : Recorded) → SetServes name Keeps Serves s →
-      SetServed calls makes holds after leaves s req was m a new now → Serves new.inner → SetServes name Keeps Serves new
+      SetServed calls makes holds after abandons s req was m a new now → Serves new.inner → SetServes name Keeps Serves new
   served s req was m a new now k d i = record {
     name_is = ap (λ x. x.header_name) d.same ∙ k.name_is;
     maker = kept_by (get req.head.parts.headers s.header_name) s.header_name s.make_request_id req new.make_request_id d.tagged k.maker d.tags;
     inner = i;
   }
 
-  pub set_serves : ServiceFollows (SetCalls calls makes holds after leaves) Before (SetServes name Keeps Serves) Stands es
+  pub set_serves : ServiceFollows (SetCalls calls makes holds after abandons) Before (SetServes name Keeps Serves) Stands es
   set_serves = record {
     call = λ s req was m f new now q k c. ⊎_elim
         (λ d. let i = inner.call s.inner d.tagged was m f new.inner now (asks s.make_request_id req new.make_request_id d.tagged k.maker q (rw k.name_is at d.tags)) k.inner d.inner in

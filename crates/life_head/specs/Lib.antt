@@ -1,5 +1,5 @@
+pub mod History
 pub mod Ids
 pub mod Lending
 pub mod Propagating
 pub mod Setting
-pub mod Stands

@@ -2,11 +2,10 @@
 use Rattle.std.specs.Prelude.{◌≡◌, ℕ, ◌⊎◌, List, Option, Some, None, Result, Ok, Err}
 use Rattle.http_header.specs.FieldValue.{FieldValue}
 use Rattle.http_header.specs.HeaderMap.{get}
-use Rattle.life_core.specs.Meaning.{Leaves, Readies, Calls, GivenUp}
+use Rattle.life_core.specs.Calls.{Forwards, Abandons, Readies, Calls, Abandoned}
 use Rattle.life_core.specs.Moment.{Moment}
 use Rattle.life_core.specs.Recorded.{Recorded}
 use Rattle.life_core.specs.declared.message.Request.{Request}
-use Rattle.life_core.specs.declared.poll.Poll.{Poll}
 use Rattle.life_core.specs.declared.recorder.NoMemory.{NoMemory}
 use Rattle.life_head.specs.Ids.{Makes, tagged_by}
 use Rattle.life_head.specs.declared.request_id.id.RequestId.{RequestId}
@@ -28,11 +27,8 @@ set_inner s = s.inner
 abbrev pub SetMay : {S M : Type 0} → (S → Type 0) → (M → Type 0) → SetRequestId S M → Type 0
 SetMay may maker_may s = may s.inner × maker_may s.make_request_id
 
--- the inner answer of readiness; the layer's own parts stay
-pub record SetReadies {S M E : Type 0} (readies : Readies S E) (old : SetRequestId S M) (was : Recorded) (m : Moment)
-    (answer : Poll (Result Unit E)) (new : SetRequestId S M) (now : Recorded) : Type 0 where
-  pub inner : readies old.inner was m answer new.inner now
-  pub same : new ≡ record old { inner = new.inner }
+abbrev pub SetReadies : {S M E : Type 0} → Readies S E → Readies (SetRequestId S M) E
+SetReadies = Forwards set_inner (λ s inner. record s { inner = inner })
 
 module _ {M B X : Type 0} (makes : Makes M B X) (holds : X → Option RequestId) (after : X → RequestId → X) where
   -- by the first value of the header: where there is none, the maker is asked
@@ -51,7 +47,7 @@ module _ {M B X : Type 0} (makes : Makes M B X) (holds : X → Option RequestId)
   Tags name maker old (Err e) maker_new new = Asked maker old maker_new
 
 module _ {S M B X F : Type 0} (calls : Calls S (Request B X) F) (makes : Makes M B X)
-    (holds : X → Option RequestId) (after : X → RequestId → X) (leaves : Leaves B) where
+    (holds : X → Option RequestId) (after : X → RequestId → X) (abandons : Abandons B) where
   -- the inner service is called with the request that has its id
   pub record SetServed (old : SetRequestId S M) (req : Request B X) (was : Recorded) (m : Moment)
       (answer : Result F NoMemory) (new : SetRequestId S M) (now : Recorded) : Type 0 where
@@ -60,11 +56,11 @@ module _ {S M B X F : Type 0} (calls : Calls S (Request B X) F) (makes : Makes M
     pub inner : calls old.inner tagged was m answer new.inner now
     pub same : new ≡ record old { inner = new.inner; make_request_id = new.make_request_id }
 
-  -- no memory for the id: the request's body is given up
+  -- no memory for the id: the request's body is abandoned
   pub record SetRefused (old : SetRequestId S M) (req : Request B X) (was : Recorded) (m : Moment)
       (new : SetRequestId S M) (now : Recorded) : Type 0 where
     pub asked : Asked makes holds after old.make_request_id req new.make_request_id
-    pub left : GivenUp leaves req.body was m now
+    pub left : Abandoned abandons req.body was m now
     pub same : new ≡ record old { make_request_id = new.make_request_id }
 
   abbrev pub SetCalls : Calls (SetRequestId S M) (Request B X) F

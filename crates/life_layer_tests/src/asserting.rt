@@ -62,8 +62,8 @@ pub fn waits<F: Future<Log>>(
     }
 }
 
-/// Gives up a future or a body, and asserts that this succeeds.
-pub fn leave<F: Spend<Log>>(rt: &(impl Abort + AllocGlobal), value: F, now: u64, log: &mut Log)
+/// Abandons a future or a body, and asserts that this succeeds.
+pub fn abandon<F: Spend<Log>>(rt: &(impl Abort + AllocGlobal), value: F, now: u64, log: &mut Log)
     requires { F.may value }
 {
     match abandoned(rt.alloc(), value, now, log) {
@@ -72,7 +72,7 @@ pub fn leave<F: Spend<Log>>(rt: &(impl Abort + AllocGlobal), value: F, now: u64,
     }
 }
 
-/// What a future answers at this time. Then it is given up.
+/// What a future answers at this time. Then it is abandoned.
 pub fn answer_of<F: Future<Log>>(
     rt: &(impl Abort + AllocGlobal),
     mut future: F,
@@ -83,7 +83,7 @@ pub fn answer_of<F: Future<Log>>(
     ensures { F.Output.sound result }
 {
     let answer = polled(rt.alloc(), &mut future, now, log);
-    leave(rt, future, now, log);
+    abandon(rt, future, now, log);
     match answer {
         Ok(Poll::Ready(answer)) => answer,
         Ok(Poll::Pending) => panic!(rt; "no answer at {now}"),
@@ -127,7 +127,7 @@ where
     answer_of(rt, future, times.2, &mut log)
 }
 
-/// Asserts that a service is ready, and that its future waits at a time. Then it is given up at another.
+/// Asserts that a service is ready, and that its future waits at a time. Then it is abandoned at another.
 pub fn left_early<R, S, E>(
     rt: &(impl Abort + AllocGlobal),
     service: &mut S,
@@ -144,7 +144,7 @@ where
     is_ready(rt, service);
     let mut future = future_of(rt, service, request, times.0, log);
     waits(rt, &mut future, times.1, log);
-    leave(rt, future, times.2, log);
+    abandon(rt, future, times.2, log);
 }
 
 /// Asserts the status of a head, and that it has no headers.
@@ -217,7 +217,7 @@ pub fn is_left<B: Body<Log>>(rt: &impl Abort, body: &B, ended: bool, most: Optio
 }
 
 /// Asserts that an answer is a response with this status and no headers, and what its body says at these times.
-/// Then it tells its end or not, says that at most so many bytes are left, and is given up at a time.
+/// Then it tells its end or not, says that at most so many bytes are left, and is abandoned at a time.
 pub fn is_response<B, X, E, D>(
     rt: &(impl Abort + AllocGlobal),
     answer: Result<Response<B, X>, E>,
@@ -241,7 +241,7 @@ where
     is_bare(rt, head, status);
     says_these(rt, &mut body, polls);
     is_left(rt, &body, left.0, left.1);
-    leave(rt, body, now, log);
+    abandon(rt, body, now, log);
 }
 
 /// Adds these values under a name, after those that it has.
@@ -332,7 +332,7 @@ fn is_exactly<B: Body<Log>>(rt: &impl Abort, body: &B, bytes: usize) {
     assert_eq!(rt; body.size_hint().exact(), Some(bytes as u64));
 }
 
-/// Asserts that an answer is a response with this status that is this plain text. Its body is given up.
+/// Asserts that an answer is a response with this status that is this plain text. Its body is abandoned.
 pub fn is_text<B, X, E, D>(
     rt: &(impl Abort + AllocGlobal),
     answer: Result<Response<B, X>, E>,
@@ -356,7 +356,7 @@ where
     says(rt, &mut body, 0, Ok(text.as_bytes()));
     is_left(rt, &body, true, Some(0));
     says(rt, &mut body, 0, Err("end"));
-    leave(rt, body, 0, &mut Log::new(rt.alloc()));
+    abandon(rt, body, 0, &mut Log::new(rt.alloc()));
 }
 
 /// Asserts that a service of the tests answers the error 4 where it is asked whether it is ready.

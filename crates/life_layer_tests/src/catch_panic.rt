@@ -1,6 +1,6 @@
 //! Answers to panics.
 ghost use Rattle.std.specs.Prelude.{⊤, IfOk};
-ghost use Rattle.life_core.specs.Boxed.{BoxMay};
+ghost use Rattle.life_core.specs.UnsyncBoxBody.{BoxMay};
 ghost use Rattle.life_limit.specs.Catch.{CatchMay};
 
 use crate::asserting::{

@@ -31,7 +31,7 @@ fn is_noted(rt: &impl Abort, log: &mut Log, want: Option<(u16, u64)>) {
     assert_eq!(rt; noted(&events), want);
 }
 
-/// Asserts what is noted where a guard of a future, called at 100, is given up at 105.
+/// Asserts what is noted where a guard of a future, called at 100, is abandoned at 105.
 fn fires(rt: &(impl Abort + AllocGlobal), callback: NoteDropped, completes: bool) {
     let mut guard = OnEarlyDropGuard::new(callback);
     if completes {
@@ -83,7 +83,7 @@ fn a_future_that_waits_is_noted(rt: HostRuntime) {
 }
 
 /// Asserts that the body of a response, whose request is called at 100, says this at 104, whether it tells its
-/// end then, and what was noted once it is given up at 106.
+/// end then, and what was noted once it is abandoned at 106.
 fn notes(
     rt: &(impl Abort + AllocGlobal),
     body: ProbeBody,

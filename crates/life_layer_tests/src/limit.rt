@@ -4,7 +4,7 @@ ghost use Rattle.life_core.specs.Limited.{LimitedMay};
 ghost use Rattle.life_limit.specs.LimitBody.{LimitBodyMay};
 
 use crate::asserting::{
-    answer_of, future_of, is_called, is_left, is_never_ready, is_response, is_text, leave,
+    abandon, answer_of, future_of, is_called, is_left, is_never_ready, is_response, is_text,
     request_with, round, twin_of,
 };
 use life_core::{Fault, Limited, Log, Request, Response};
@@ -141,7 +141,7 @@ fn readiness(rt: HostRuntime) {
 fn default_bodies(rt: HostRuntime) {
     let body = ResponseBody::<ProbeBody>::default();
     is_left(&rt, &body, true, None);
-    leave(&rt, body, 0, &mut Log::new(rt.alloc()));
+    abandon(&rt, body, 0, &mut Log::new(rt.alloc()));
 }
 
 /// A service that was called so often.

@@ -1,5 +1,5 @@
 //! Timeouts of responses, and deadlines of their bodies.
-use crate::asserting::{answered_late, is_left, is_response, leave, says_these};
+use crate::asserting::{abandon, answered_late, is_left, is_response, says_these};
 use http::StatusCode;
 use life_core::{Log, Request};
 use life_probe::{Answers, Probe, ProbeBody, Says};
@@ -32,7 +32,7 @@ fn says_in_time(
     let mut body = DeadlineBody::new(20, ProbeBody::new(list), 100);
     says_these(rt, &mut body, polls);
     is_left(rt, &body, false, None);
-    leave(rt, body, 130, &mut Log::new(rt.alloc()));
+    abandon(rt, body, 130, &mut Log::new(rt.alloc()));
 }
 
 #[test]

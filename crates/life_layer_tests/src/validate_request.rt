@@ -1,7 +1,7 @@
 //! Gates by a header's value, by media types and by closures.
 use crate::asserting::{
-    answered, future_of, is_called, is_never_ready, is_response, leave, made, request_with, round,
-    twin_of,
+    abandon, answered, future_of, is_called, is_never_ready, is_response, made, request_with,
+    round, twin_of,
 };
 use http::StatusCode;
 use http::header::{HeaderMap, HeaderName, HeaderValue, HeaderValueError};
@@ -232,8 +232,8 @@ fn validators(rt: HostRuntime) {
     drop(head);
 }
 
-/// Gives up the future of a request with these values.
-fn gives_up(
+/// Abandons the future of a request with these values.
+fn abandons(
     rt: &(impl Abort + AllocGlobal),
     service: &mut ValidateRequestHeader<Probe, Required>,
     values: &[&[u8]],
@@ -243,14 +243,14 @@ fn gives_up(
     let future: ResponseFuture<ProbeFuture<ProbeBody, ()>, ProbeBody, ()> = future_of(
         rt, service, request, 0, &mut log,
     );
-    leave(rt, future, 0, &mut log);
+    abandon(rt, future, 0, &mut log);
 }
 
 #[test]
-fn refusals_that_are_given_up(rt: HostRuntime) {
+fn refusals_that_are_abandoned(rt: HostRuntime) {
     let mut service = ValidateRequestHeader::custom(called(0), required(&rt));
-    gives_up(&rt, &mut service, &[]);
-    gives_up(&rt, &mut service, &[b"a"]);
+    abandons(&rt, &mut service, &[]);
+    abandons(&rt, &mut service, &[b"a"]);
     is_called(&rt, service.get_ref(), 1);
 }
 

@@ -1,9 +1,9 @@
 -- `CatchPanic` answers as its inner future, and for its panics as its handler.
-use Rattle.std.proofs.Common.{◌≡◌, ℕ, ◌<◌, List, [], ◌∷◌, length, Option, Some, None, Ok, Err, Result, refl, ap, ◌∙◌, subst, ⊎_elim}
-use Rattle.std.specs.Prelude.{⊤, codes, IsSome, IsSomeAnd}
+use Rattle.std.proofs.Common.{◌≡◌, ℕ, ◌<◌, List, [], ◌∷◌, length, Option, Some, None, Ok, Err, Result, ap, ◌∙◌, subst, ⊎_elim, inl, inr}
+use Rattle.std.specs.Prelude.{⊤, codes, IsSome}
 use Rattle.life_core.proofs.Growth.{adds_one, adds_then}
-use Rattle.life_core.specs.History.{Adds, BodyHistory, FutureHistory, FutureFollows, PollSteps, Said, Waits, Gives, Fails, Where, Waiting, Answered, Matches, where_after, left_at, ServiceFollows}
-use Rattle.life_core.specs.Meaning.{Polls, Leaves, Calls, LeavesIfAny, PollsWithin}
+use Rattle.life_core.specs.History.{Adds, BodyHistory, FutureHistory, FutureFollows, Said, Waits, Gives, Fails, Where, Waiting, Answered, Matches, where_after, left_at, ServiceFollows}
+use Rattle.life_core.specs.Calls.{Polls, Abandons, Calls}
 use Rattle.life_core.specs.Message.{IsText}
 use Rattle.life_core.specs.Moment.{Moment}
 use Rattle.life_core.specs.OneChunk.{TellsChunk, FullStands, BoxStands}
@@ -20,8 +20,10 @@ use Rattle.life_core.specs.declared.message.ResponseHead.{ResponseHead}
 use Rattle.life_core.specs.declared.poll.Poll.{Poll}
 use Rattle.life_core.specs.declared.poll.Poll.TheVariants.{Ready, Pending}
 use Rattle.life_core.specs.declared.recorder.NoMemory.{NoMemory}
-use Rattle.life_limit.specs.Catch.{Handles, HandlerBody, CatchCalls, CatchPolls, CatchCatches, CatchLeaves, InnerBody, InnerReplies, DefaultHandles, panic_record}
-use Rattle.life_limit.specs.Stands.{CatchStands, CatchServes, Watches, KeepsUntil, caught, with_panic, catch_history}
+use Rattle.life_limit.specs.Catch.{Handles, HandlerBody, CatchCalls, CatchPolls, CatchCatches, CatchAbandons, CatchKindAbandons, CatchKindPolls, InnerBody, InnerReplies, DefaultHandles, panic_record}
+use Rattle.life_limit.specs.History.{CatchStands, CatchServes, Watches, KeepsUntil, caught, with_panic, catch_history}
+use Rattle.life_limit.specs.declared.catch_panic.future.Kind.{Kind}
+use Rattle.life_limit.specs.declared.catch_panic.future.Kind.TheVariants as kind
 use Rattle.life_limit.specs.declared.catch_panic.future.ResponseFuture.{ResponseFuture}
 use Rattle.life_limit.specs.declared.catch_panic.service.CatchPanic.{CatchPanic}
 
@@ -31,32 +33,21 @@ pub record HandlerFollows {H P T Q X : Type 0} (handles : Handles T Q X) (Keeps 
   pub responds : (old : T) (text : PanicText) (was : Recorded) (r : Response Q X) (new : T) (now : Recorded) →
       Keeps old → handles old text was (Ok r) new now → Heads head r.head × Stands plan r.body [] × Adds was now (fired text)
 
-module _ {H P F T B Q X E D : Type 0} (polls : Polls F (Result (Response B X) (Fault E))) (leaves : Leaves F) (handles : Handles T Q X) (Keeps : T → Type 0) (Heads : H → ResponseHead X → Type 0)
+module _ {H P F T B Q X E D : Type 0} (polls : Polls F (Result (Response B X) (Fault E))) (abandons : Abandons F) (handles : Handles T Q X) (Keeps : T → Type 0) (Heads : H → ResponseHead X → Type 0)
     (panic_head : H) (plan : P) (fired : PanicText → List Event)
     (Stands : F → Where → Type 0) (BodyStands : P → B → List ℕ → Type 0) (PanicStands : P → Q → List ℕ → Type 0) (hb : P → BodyHistory (List ℕ) D) (h : FutureHistory H P (Fault E))
     (handler : HandlerFollows handles Keeps Heads PanicStands panic_head plan fired)
-    (inner : FutureFollows polls leaves Heads Stands BodyStands h) where
+    (inner : FutureFollows polls abandons Heads Stands BodyStands h) where
   abbrev BS : P → UnsyncBoxBody B Q → List ℕ → Type 0
   BS = BoxStands hb BodyStands PanicStands
-
-  abbrev Here : ResponseFuture F T → Where → Type 0
-  Here = CatchStands Keeps Stands
 
   abbrev Reply : Type 0
   Reply = Poll (Result (Response (UnsyncBoxBody B Q) X) E)
 
   -- an answer, by what the inner one says and by what it records
-  abbrev Steps : List ℕ → Recorded → ℕ → Reply → Option F → Recorded → Type 0
+  abbrev Steps : List ℕ → Recorded → ℕ → Reply → F → Recorded → Type 0
   Steps past was t a g now =
-      Matches Heads BS (caught panic_head plan (h.says past t)) a × Adds was now (with_panic fired (h.says past t) (h.events past t)) × Watches Stands g (where_after past t a)
-
-  -- the inner future was polled once, with this inner answer
-  polled : (past : List ℕ) (f g : Option F) (was : Recorded) (m : Moment) (a : Poll (Result (Response B X) (Fault E))) (now : Recorded) →
-      Watches Stands f (Waiting past) → PollsWithin polls f was m (Ok a) g now →
-      Matches Heads BodyStands (h.says past m.now) a × Adds was now (h.events past m.now) × Watches Stands g (where_after past m.now a)
-  polled past None g was m a now s d = elim s [ ]
-  polled past (Some f) None was m a now s d = elim d [ ]
-  polled past (Some f) (Some g) was m a now s d = let i = inner.poll past f was m a g now s d in (i.answer, i.adds, i.stands)
+      Matches Heads BS (caught panic_head plan (h.says past t)) a × Adds was now (with_panic fired (h.says past t) (h.events past t)) × Stands g (where_after past t a)
 
   gave : (s : Said H P (Fault E)) (es : List Event) (head : ResponseHead X) (b : B) (was now : Recorded) → Matches Heads BodyStands s (Ready (Ok (record { head = head; body = b }))) → Adds was now es →
       Matches Heads BS (caught panic_head plan s) (Ready (Ok (record { head = head; body = Inner b }))) × Adds was now (with_panic fired s es)
@@ -99,78 +90,64 @@ module _ {H P F T B Q X E D : Type 0} (polls : Polls F (Result (Response B X) (F
   handled old text was head (Panic q) new now k d = let r = handler.responds old text was (record { head = head; body = q }) new now k d in ((r.0, r.1), r.2)
   handled old text was head Empty new now k d = elim d [ ]
 
-  passes : (past : List ℕ) (f : ResponseFuture F T) (was : Recorded) (m : Moment) (a : Reply) (new : ResponseFuture F T) (now : Recorded) →
-      Watches Stands f.inner (Waiting past) → InnerReplies polls handles f was m (Ok a) new now → Steps past was m.now a new.inner now
+  passes : (past : List ℕ) (f : F) (was : Recorded) (m : Moment) (a : Reply) (new : F) (now : Recorded) →
+      Stands f (Waiting past) → InnerReplies polls handles f was m (Ok a) new now → Steps past was m.now a new now
   passes past f was m (Ready (Ok r)) new now s d = by_body r.head r.body d
     where
-      by_body : (head : ResponseHead X) (body : UnsyncBoxBody B Q) → InnerBody polls handles f was m head body new now → Steps past was m.now (Ready (Ok (record { head = head; body = body }))) new.inner now
-      by_body head (Inner b) d = let i = polled past f.inner new.inner was m _ now s d in let g = gave (h.says past m.now) (h.events past m.now) head b was now i.0 i.1 in (g.0, g.1, i.2)
+      by_body : (head : ResponseHead X) (body : UnsyncBoxBody B Q) → InnerBody polls handles f was m head body new now → Steps past was m.now (Ready (Ok (record { head = head; body = body }))) new now
+      by_body head (Inner b) d = let i = inner.poll past f was m _ new now s d in let g = gave (h.says past m.now) (h.events past m.now) head b was now i.answer i.adds in (g.0, g.1, i.stands)
       by_body head (Panic q) d = elim d [ ]
       by_body head Empty d = elim d [ ]
   passes past f was m (Ready (Err x)) new now s d =
-      let i = polled past f.inner new.inner was m _ now s d in let g = failed (h.says past m.now) (h.events past m.now) x was now i.0 i.1 in (g.0, g.1, i.2)
+      let i = inner.poll past f was m _ new now s d in let g = failed (h.says past m.now) (h.events past m.now) x was now i.answer i.adds in (g.0, g.1, i.stands)
   passes past f was m Pending new now s d =
-      let i = polled past f.inner new.inner was m _ now s d in let g = waited (h.says past m.now) (h.events past m.now) was now i.0 i.1 in (g.0, g.1, i.2)
+      let i = inner.poll past f was m _ new now s d in let g = waited (h.says past m.now) (h.events past m.now) was now i.answer i.adds in (g.0, g.1, i.stands)
 
-  catches : (past : List ℕ) (f : ResponseFuture F T) (was : Recorded) (m : Moment) (a : Reply) (new : ResponseFuture F T) (now : Recorded) →
-      Keeps f.handler → Watches Stands f.inner (Waiting past) → CatchCatches polls handles f was m (Ok a) new now → Steps past was m.now a new.inner now × KeepsUntil Keeps new.handler (where_after past m.now a)
-  catches past f was m (Ready (Ok r)) new now k s d =
-      let i = polled past f.inner new.inner was m _ d.between s d.inner in
-      let x = handled f.handler d.text d.between r.head r.body new.handler now k d.handled in
-      let g = panicked (h.says past m.now) (h.events past m.now) d.text (Ready (Ok r)) was d.between now i.0 i.1 x.0 x.1 in
-      ((g.0, g.1, i.2), tt)
-  catches past f was m (Ready (Err x)) new now k s d = absurd d.handled
-  catches past f was m Pending new now k s d = absurd d.handled
-
-  -- the handler is not used by an inner answer
-  kept : (w : Where) (f new : ResponseFuture F T) → new ≡ record f { inner = new.inner } → KeepsUntil Keeps f.handler w → KeepsUntil Keeps new.handler w
-  kept w f new same k = rw (ap (λ x. x.handler) same) k
+  catches : (past : List ℕ) (f : F) (handler : T) (was : Recorded) (m : Moment) (a : Reply) (new : F) (after : T) (now : Recorded) →
+      Keeps handler → Stands f (Waiting past) → CatchCatches polls handles f handler was m (Ok a) new after now → Steps past was m.now a new now × KeepsUntil Keeps after (where_after past m.now a)
+  catches past f handler was m (Ready (Ok r)) new after now k s d =
+      let i = inner.poll past f was m _ new d.between s d.inner in
+      let x = handled handler d.text d.between r.head r.body after now k d.handled in
+      let g = panicked (h.says past m.now) (h.events past m.now) d.text (Ready (Ok r)) was d.between now i.answer i.adds x.0 x.1 in
+      ((g.0, g.1, i.stands), tt)
+  catches past f handler was m (Ready (Err x)) new after now k s d = absurd d.handled
+  catches past f handler was m Pending new after now k s d = absurd d.handled
 
   until : (past : List ℕ) (t : ℕ) (a : Reply) (handler : T) → Keeps handler → KeepsUntil Keeps handler (where_after past t a)
   until past t (Ready x) handler k = tt
   until past t Pending handler k = k
 
-  nothing_told : (o : Option PanicText) (R : PanicText → Type 0) → o ≡ None → IsSomeAnd o R → ⊥
-  nothing_told None R e r = absurd r
-  nothing_told (Some text) R e r = absurd (cc e)
+  abbrev Goes : List ℕ → Recorded → ℕ → Reply → Kind F → T → Recorded → Type 0
+  Goes past was t a new after now = Matches Heads BS (caught panic_head plan (h.says past t)) a × Adds was now (with_panic fired (h.says past t) (h.events past t)) × Watches Keeps Stands new after (where_after past t a)
 
-  step : (past : List ℕ) (f : ResponseFuture F T) (was : Recorded) (m : Moment) (a : Reply) (new : ResponseFuture F T) (now : Recorded) →
-      Here f (Waiting past) → CatchPolls polls handles f was m (Ok a) new now → PollSteps Heads Here BS (catch_history fired panic_head plan h) past was m.now a new now
-  step past f was m a new now s c = ⊎_elim
-      (λ d. absurd (nothing_told f.text _ s.no_text d.handled))
-      (λ c. ⊎_elim
-      (λ d. let r = passes past f was m a new now s.inner d.inner in record {
-        answer = r.0;
-        adds = r.1;
-        stands = record { no_text = ap (λ x. x.text) d.same ∙ s.no_text; handler = until past m.now a new.handler (kept (Waiting past) f new d.same s.handler); inner = r.2 };
-      })
-      (λ d. let r = catches past f was m a new now s.handler s.inner d in record {
-        answer = r.0.0;
-        adds = r.0.1;
-        stands = record { no_text = ap (λ x. x.text) d.same ∙ s.no_text; handler = r.1; inner = r.0.2 };
-      }) c) c
+  step : (past : List ℕ) (f : Kind F) (handler : T) (was : Recorded) (m : Moment) (a : Reply) (new : Kind F) (after : T) (now : Recorded) →
+      Watches Keeps Stands f handler (Waiting past) → CatchKindPolls polls handles f handler was m (Ok a) new after now → Goes past was m.now a new after now
+  step past (kind.Future f) handler was m a (kind.Future g) after now s (inl d) = let r = passes past f was m a g now s.1 d.0 in (r.0, r.1, (until past m.now a after (rw d.1 s.0), r.2))
+  step past (kind.Future f) handler was m a (kind.Future g) after now s (inr d) = let r = catches past f handler was m a g after now s.0 s.1 d in (r.0.0, r.0.1, (r.1, r.0.2))
+  step past (kind.Future f) handler was m a (kind.Panicked text) after now s d = elim d [ ]
+  step past (kind.Panicked text) handler was m a new after now s d = elim s [ ]
 
-  left_by : (w : Where) (f : Option F) (was : Recorded) (m : Moment) (u : Unit) (now : Recorded) →
-      Watches Stands f w → LeavesIfAny leaves f was m (Ok u) now → Adds was now (left_at (catch_history fired panic_head plan h) w m.now)
-  left_by w None was m u now s d = elim s [ ]
-  left_by (Waiting past) (Some f) was m u now s d = inner.left (Waiting past) f was m u now s d
-  left_by Answered (Some f) was m u now s d = inner.left Answered f was m u now s d
+  left_by : (w : Where) (f : Kind F) (handler : T) (was : Recorded) (m : Moment) (u : Unit) (now : Recorded) →
+      Watches Keeps Stands f handler w → CatchKindAbandons abandons f was m (Ok u) now → Adds was now (left_at (catch_history fired panic_head plan h) w m.now)
+  left_by (Waiting past) (kind.Future f) handler was m u now s d = inner.left (Waiting past) f was m u now s.1 d
+  left_by Answered (kind.Future f) handler was m u now s d = inner.left Answered f was m u now s.1 d
+  left_by w (kind.Panicked text) handler was m u now s d = elim s [ ]
 
-  refused_by : (w : Where) (f : Option F) (was : Recorded) (m : Moment) (e : NoMemory) (now : Recorded) →
-      Watches Stands f w → LeavesIfAny leaves f was m (Err e) now → was.spare < length (left_at (catch_history fired panic_head plan h) w m.now)
-  refused_by w None was m e now s d = elim s [ ]
-  refused_by (Waiting past) (Some f) was m e now s d = inner.refused (Waiting past) f was m e now s d
-  refused_by Answered (Some f) was m e now s d = inner.refused Answered f was m e now s d
+  refused_by : (w : Where) (f : Kind F) (handler : T) (was : Recorded) (m : Moment) (e : NoMemory) (now : Recorded) →
+      Watches Keeps Stands f handler w → CatchKindAbandons abandons f was m (Err e) now → was.spare < length (left_at (catch_history fired panic_head plan h) w m.now)
+  refused_by (Waiting past) (kind.Future f) handler was m e now s d = inner.refused (Waiting past) f was m e now s.1 d
+  refused_by Answered (kind.Future f) handler was m e now s d = inner.refused Answered f was m e now s.1 d
+  refused_by w (kind.Panicked text) handler was m e now s d = elim s [ ]
 
-  pub catch_follows : FutureFollows (CatchPolls polls handles) (CatchLeaves leaves) Heads Here BS (catch_history fired panic_head plan h)
+  pub catch_follows : FutureFollows (CatchPolls polls handles) (CatchAbandons abandons) Heads (CatchStands Keeps Stands) BS (catch_history fired panic_head plan h)
   catch_follows = record {
-    poll = step;
-    left = λ w f was m u now s d. left_by w f.inner was m u now s.inner d;
-    refused = λ w f was m e now s d. refused_by w f.inner was m e now s.inner d;
+    poll = λ past f was m a new now s d. let r = step past f.kind f.panic_handler was m a new.kind new.panic_handler now s d in record { answer = r.0; adds = r.1; stands = r.2 };
+    left = λ w f was m u now s d. left_by w f.kind f.panic_handler was m u now s d;
+    refused = λ w f was m e now s d. refused_by w f.kind f.panic_handler was m e now s d;
   }
 
 -- no text is kept before a call, and none after it
-module _ {S T Q X F : Type 0} (calls : Calls S (Request Q X) F) (leaves : Leaves Q) (Asks : Request Q X → Type 0) (Keeps : T → Type 0) (Serves : S → Type 0) (Stands : ℕ → F → Where → Type 0) (es : List Event)
+module _ {S T Q X F : Type 0} (calls : Calls S (Request Q X) F) (abandons : Abandons Q) (Asks : Request Q X → Type 0) (Keeps : T → Type 0) (Serves : S → Type 0) (Stands : ℕ → F → Where → Type 0) (es : List Event)
     (inner : ServiceFollows calls Asks Serves Stands es) where
   serves_on : (s new : CatchPanic S T) → CatchServes Keeps Serves s → new ≡ record s { inner = new.inner } → Serves new.inner → CatchServes Keeps Serves new
   serves_on s new k same i = record { none_kept = ap (λ x. x.kept) same ∙ k.none_kept; handler = rw (ap (λ x. x.panic_handler) same) k.handler; inner = i }
@@ -180,27 +157,27 @@ module _ {S T Q X F : Type 0} (calls : Calls S (Request Q X) F) (leaves : Leaves
   not_told (Some text) e x = absurd (cc e)
 
   stays : (s : CatchPanic S T) (req : Request Q X) (was : Recorded) (m : Moment) (e : NoMemory) (new : CatchPanic S T) (now : Recorded) →
-      CatchServes Keeps Serves s → CatchCalls {F = F} calls leaves s req was m (Err e) new now → CatchServes Keeps Serves new
+      CatchServes Keeps Serves s → CatchCalls {F = F} calls abandons s req was m (Err e) new now → CatchServes Keeps Serves new
   stays s req was m e new now k c = ⊎_elim
       (λ d. serves_on s new k d.same (inner.refused s.inner req was m e new.inner now k.inner d.inner))
       (λ d. rw d.same k) c
 
-  pub catch_serves : ServiceFollows (CatchCalls calls leaves) Asks (CatchServes Keeps Serves) (λ t. CatchStands Keeps (Stands t)) es
+  pub catch_serves : ServiceFollows (CatchCalls calls abandons) Asks (CatchServes Keeps Serves) (λ t. CatchStands Keeps (Stands t)) es
   catch_serves = record {
     call = λ s req was m f new now q k c. ⊎_elim
         (λ d. let i = inner.call s.inner req was m d.given new.inner now q k.inner d.inner in
-        (serves_on s new k d.same i.0, rw d.future (record { no_text = refl; handler = k.handler; inner = i.1 }), i.2))
+        (serves_on s new k d.same i.0, rw d.future (k.handler, i.1), i.2))
         (λ d. absurd (not_told s.kept k.none_kept d.is_kept)) c;
     refused = stays;
   }
 
-module _ {S T Q X F : Type 0} (calls : Calls S (Request Q X) F) (leaves : Leaves Q) (Keeps : T → Type 0) (Serves : S → Type 0) (Any : ℕ → F → Where → Type 0) (es : List Event)
+module _ {S T Q X F : Type 0} (calls : Calls S (Request Q X) F) (abandons : Abandons Q) (Keeps : T → Type 0) (Serves : S → Type 0) (Any : ℕ → F → Where → Type 0) (es : List Event)
     (inner : ServiceFollows calls (λ req. ⊤) Serves Any es) where
   -- whatever is asked, the service serves on as before
-  pub catch_keeps : ServiceFollows (CatchCalls calls leaves) (λ req. ⊤) (CatchServes Keeps Serves) (λ t (f : ResponseFuture F T) (w : Where). ⊤) es
+  pub catch_keeps : ServiceFollows (CatchCalls calls abandons) (λ req. ⊤) (CatchServes Keeps Serves) (λ t (f : ResponseFuture F T) (w : Where). ⊤) es
   catch_keeps = record {
-    call = λ s req was m f new now q k c. let i = (catch_serves calls leaves (λ req. ⊤) Keeps Serves Any es inner).call s req was m f new now tt k c in (i.0, tt, i.2);
-    refused = stays calls leaves (λ req. ⊤) Keeps Serves Any es inner;
+    call = λ s req was m f new now q k c. let i = (catch_serves calls abandons (λ req. ⊤) Keeps Serves Any es inner).call s req was m f new now tt k c in (i.0, tt, i.2);
+    refused = stays calls abandons (λ req. ⊤) Keeps Serves Any es inner;
   }
 
 -- the default handler: 500 with its text, and the panic recorded

@@ -1,9 +1,9 @@
 -- What `CatchPanic` does: it turns the panics of its inner service into its handler's responses.
-use Rattle.std.specs.Prelude.{◌≡◌, ◌⊎◌, Option, Some, None, Result, Ok, Err, IsSome, IfSome, IsSomeAnd, codes}
+use Rattle.std.specs.Prelude.{◌≡◌, ◌⊎◌, Option, Some, None, Result, Ok, Err, IsSome, codes, ⊤}
 use Rattle.std.specs.Borrow.{MutBor}
 use Rattle.std.specs.Fn.{Called, Mut}
 use Rattle.life_core.specs.Full.{full_of}
-use Rattle.life_core.specs.Meaning.{Polls, Leaves, Readies, Calls, Reply, LeavesIfAny, PollsWithin, GivenUp}
+use Rattle.life_core.specs.Calls.{Polls, Abandons, Readies, Calls, Reply, Abandoned}
 use Rattle.life_core.specs.Message.{IsText}
 use Rattle.life_core.specs.Moment.{Moment}
 use Rattle.life_core.specs.Recorded.{Recorded, Notes}
@@ -21,6 +21,8 @@ use Rattle.life_core.specs.declared.message.Response.{Response}
 use Rattle.life_core.specs.declared.message.ResponseHead.{ResponseHead}
 use Rattle.life_core.specs.declared.poll.Poll.TheVariants.{Ready, Pending}
 use Rattle.life_core.specs.declared.recorder.NoMemory.{NoMemory}
+use Rattle.life_limit.specs.declared.catch_panic.future.Kind.{Kind}
+use Rattle.life_limit.specs.declared.catch_panic.future.Kind.TheVariants as kind
 use Rattle.life_limit.specs.declared.catch_panic.future.ResponseFuture.{ResponseFuture}
 use Rattle.life_limit.specs.declared.catch_panic.handler.DefaultResponseForPanic.{DefaultResponseForPanic}
 use Rattle.life_limit.specs.declared.catch_panic.layer.CatchPanicLayer.{CatchPanicLayer}
@@ -76,21 +78,33 @@ CatchMay may handler_may s = may s.inner × handler_may s.panic_handler
 
 -- the future over an inner one
 abbrev pub watching : {F T : Type 0} → F → T → ResponseFuture F T
-watching inner handler = record { inner = Some inner; text = None; handler = handler }
+watching inner handler = record { kind = kind.Future inner; panic_handler = handler }
 
 -- the future that tells of a panic before the call
 abbrev pub telling : {F T : Type 0} → Option PanicText → T → ResponseFuture F T
-telling text handler = record { inner = None; text = text; handler = handler }
+telling text handler = record { kind = kind.Panicked text; panic_handler = handler }
+
+abbrev pub CatchKindMay : {F : Type 0} → (F → Type 0) → Kind F → Type 0
+CatchKindMay may (kind.Future f) = may f
+CatchKindMay may (kind.Panicked text) = ⊤
 
 abbrev pub CatchFutureMay : {F T : Type 0} → (F → Type 0) → ResponseFuture F T → Type 0
-CatchFutureMay may f = IfSome f.inner may
+CatchFutureMay may f = CatchKindMay may f.kind
 
--- a text is to be told, or the inner future is live
+abbrev pub CatchKindLive : {F : Type 0} → (F → Type 0) → Kind F → Type 0
+CatchKindLive live (kind.Future f) = live f
+CatchKindLive live (kind.Panicked text) = IsSome text
+
+-- the inner future is live, or a text is to be told
 abbrev pub CatchFutureLive : {F T : Type 0} → (F → Type 0) → (T → Type 0) → ResponseFuture F T → Type 0
-CatchFutureLive live handler_may f = handler_may f.handler × (f.text ≡ None → IsSomeAnd f.inner live)
+CatchFutureLive live handler_may f = handler_may f.panic_handler × CatchKindLive live f.kind
 
-abbrev pub CatchLeaves : {F T : Type 0} → Leaves F → Leaves (ResponseFuture F T)
-CatchLeaves leaves old was m answer now = LeavesIfAny leaves old.inner was m answer now
+abbrev pub CatchKindAbandons : {F : Type 0} → Abandons F → Abandons (Kind F)
+CatchKindAbandons abandons (kind.Future f) was m answer now = abandons f was m answer now
+CatchKindAbandons abandons (kind.Panicked text) was m answer now = (answer ≡ Ok tt) × (now ≡ was)
+
+abbrev pub CatchAbandons : {F T : Type 0} → Abandons F → Abandons (ResponseFuture F T)
+CatchAbandons abandons old was m answer now = CatchKindAbandons abandons old.kind was m answer now
 
 -- a panic is kept in place of what was kept, and readiness is told
 abbrev pub CatchReadies : {S T E : Type 0} → Readies S (Fault E) → Readies (CatchPanic S T) E
@@ -103,12 +117,12 @@ CatchReadies readies old was m (Ready (Err e)) new now =
 CatchReadies readies old was m Pending new now =
     readies old.inner was m Pending new.inner now × (new ≡ record old { inner = new.inner })
 
--- the body is given up, and the future has the text; at a refusal the text stays kept
-abbrev pub TellsBy : {B F T : Type 0} → Leaves B → B → Recorded → Moment → Option PanicText → T → Result (ResponseFuture F T) NoMemory → Option PanicText → Recorded → Type 0
-TellsBy leaves body was m old handler (Ok f) new now = leaves body was m (Ok tt) now × (f ≡ telling old handler) × (new ≡ None)
-TellsBy leaves body was m old handler (Err e) new now = leaves body was m (Err e) now × (new ≡ old)
+-- the body is abandoned, and the future has the text; at a refusal the text stays kept
+abbrev pub TellsBy : {B F T : Type 0} → Abandons B → B → Recorded → Moment → Option PanicText → T → Result (ResponseFuture F T) NoMemory → Option PanicText → Recorded → Type 0
+TellsBy abandons body was m old handler (Ok f) new now = abandons body was m (Ok tt) now × (f ≡ telling old handler) × (new ≡ None)
+TellsBy abandons body was m old handler (Err e) new now = abandons body was m (Err e) now × (new ≡ old)
 
-module _ {S T Q X F : Type 0} (calls : Calls S (Request Q X) F) (leaves : Leaves Q) where
+module _ {S T Q X F : Type 0} (calls : Calls S (Request Q X) F) (abandons : Abandons Q) where
   -- no text is kept: the inner service is called
   pub record CatchServed (old : CatchPanic S T) (req : Request Q X) (was : Recorded) (m : Moment)
       (f : ResponseFuture F T) (new : CatchPanic S T) (now : Recorded) : Type 0 where
@@ -122,7 +136,7 @@ module _ {S T Q X F : Type 0} (calls : Calls S (Request Q X) F) (leaves : Leaves
   pub record CatchTold (old : CatchPanic S T) (req : Request Q X) (was : Recorded) (m : Moment)
       (f : ResponseFuture F T) (new : CatchPanic S T) (now : Recorded) : Type 0 where
     pub is_kept : IsSome old.kept
-    pub left : leaves req.body was m (Ok tt) now
+    pub left : abandons req.body was m (Ok tt) now
     pub future : f ≡ telling old.kept old.panic_handler
     pub same : new ≡ record old { kept = None }
 
@@ -133,10 +147,10 @@ module _ {S T Q X F : Type 0} (calls : Calls S (Request Q X) F) (leaves : Leaves
     pub inner : calls old.inner req was m (Err e) new.inner now
     pub same : new ≡ record old { inner = new.inner }
 
-  -- the request's body is given up; all stays as it was, what is kept too
+  -- the request's body is abandoned; all stays as it was, what is kept too
   pub record CatchRefuses (old : CatchPanic S T) (req : Request Q X) (was : Recorded) (m : Moment)
       (new : CatchPanic S T) (now : Recorded) : Type 0 where
-    pub left : GivenUp leaves req.body was m now
+    pub left : Abandoned abandons req.body was m now
     pub same : new ≡ old
 
   abbrev pub CatchCalls : Calls (CatchPanic S T) (Request Q X) (ResponseFuture F T)
@@ -161,40 +175,34 @@ HandlerReplies handles old text was (Ok Pending) new now = ⊥
 HandlerReplies handles old text was (Err e) new now = handles old text was (Err e) new now
 
 module _ {F T B P X E : Type 0} (polls : Polls F (Result (Response B X) (Fault E))) (handles : Handles T P X) where
-  -- the panic was before the call
-  pub record CatchTells (old : ResponseFuture F T) (was : Recorded) (answer : Reply (UnsyncBoxBody B P) X E)
-      (new : ResponseFuture F T) (now : Recorded) : Type 0 where
-    pub handled : IsSomeAnd old.text (λ text. HandlerReplies handles old.handler text was answer new.handler now)
-    pub same : new ≡ record old { text = None; handler = new.handler }
-
-  -- the inner future panics in this poll
-  pub record CatchCatches (old : ResponseFuture F T) (was : Recorded) (m : Moment) (answer : Reply (UnsyncBoxBody B P) X E)
-      (new : ResponseFuture F T) (now : Recorded) : Type 0 where
-    pub none_told : old.text ≡ None
-    pub text : PanicText
-    pub between : Recorded
-    pub inner : PollsWithin polls old.inner was m (Ok (Ready (Err (fault.Panicked text)))) new.inner between
-    pub handled : HandlerReplies handles old.handler text between answer new.handler now
-    pub same : new ≡ record old { inner = new.inner; handler = new.handler }
-
-  abbrev pub InnerBody : ResponseFuture F T → Recorded → Moment → ResponseHead X → UnsyncBoxBody B P → ResponseFuture F T → Recorded → Type 0
-  InnerBody old was m head (Inner b) new now = PollsWithin polls old.inner was m (Ok (Ready (Ok (record { head = head; body = b })))) new.inner now
+  abbrev pub InnerBody : F → Recorded → Moment → ResponseHead X → UnsyncBoxBody B P → F → Recorded → Type 0
+  InnerBody old was m head (Inner b) new now = polls old was m (Ok (Ready (Ok (record { head = head; body = b })))) new now
   InnerBody old was m head (Panic p) new now = ⊥
   InnerBody old was m head Empty new now = ⊥
 
   -- the inner answer, with the inner body
-  abbrev pub InnerReplies : Polls (ResponseFuture F T) (Result (Response (UnsyncBoxBody B P) X) E)
+  abbrev pub InnerReplies : Polls F (Result (Response (UnsyncBoxBody B P) X) E)
   InnerReplies old was m (Ok (Ready (Ok r))) new now = InnerBody old was m r.head r.body new now
-  InnerReplies old was m (Ok (Ready (Err e))) new now = PollsWithin polls old.inner was m (Ok (Ready (Err (fault.Err e)))) new.inner now
-  InnerReplies old was m (Ok Pending) new now = PollsWithin polls old.inner was m (Ok Pending) new.inner now
-  InnerReplies old was m (Err e) new now = PollsWithin polls old.inner was m (Err e) new.inner now
+  InnerReplies old was m (Ok (Ready (Err e))) new now = polls old was m (Ok (Ready (Err (fault.Err e)))) new now
+  InnerReplies old was m (Ok Pending) new now = polls old was m (Ok Pending) new now
+  InnerReplies old was m (Err e) new now = polls old was m (Err e) new now
 
-  -- the inner future answers without a panic
-  pub record CatchPasses (old : ResponseFuture F T) (was : Recorded) (m : Moment) (answer : Reply (UnsyncBoxBody B P) X E)
-      (new : ResponseFuture F T) (now : Recorded) : Type 0 where
-    pub none_told : old.text ≡ None
-    pub inner : InnerReplies old was m answer new now
-    pub same : new ≡ record old { inner = new.inner }
+  -- the inner future panics in this poll, and the handler answers
+  pub record CatchCatches (old : F) (handler : T) (was : Recorded) (m : Moment) (answer : Reply (UnsyncBoxBody B P) X E) (new : F) (after : T) (now : Recorded) : Type 0 where
+    pub text : PanicText
+    pub between : Recorded
+    pub inner : polls old was m (Ok (Ready (Err (fault.Panicked text)))) new between
+    pub handled : HandlerReplies handles handler text between answer after now
+
+  -- the inner answer, where that is no panic; the handler's, where it is one or where one was before the call
+  abbrev pub CatchKindPolls : Kind F → T → Recorded → Moment → Reply (UnsyncBoxBody B P) X E → Kind F → T → Recorded → Type 0
+  CatchKindPolls (kind.Future f) handler was m answer (kind.Future g) after now =
+      (InnerReplies f was m answer g now × (after ≡ handler)) ⊎ CatchCatches f handler was m answer g after now
+  CatchKindPolls (kind.Future f) handler was m answer (kind.Panicked text) after now = ⊥
+  CatchKindPolls (kind.Panicked (Some text)) handler was m answer (kind.Panicked None) after now = HandlerReplies handles handler text was answer after now
+  CatchKindPolls (kind.Panicked (Some text)) handler was m answer (kind.Panicked (Some other)) after now = ⊥
+  CatchKindPolls (kind.Panicked (Some text)) handler was m answer (kind.Future g) after now = ⊥
+  CatchKindPolls (kind.Panicked None) handler was m answer new after now = ⊥
 
   abbrev pub CatchPolls : Polls (ResponseFuture F T) (Result (Response (UnsyncBoxBody B P) X) E)
-  CatchPolls old was m answer new now = CatchTells old was answer new now ⊎ CatchPasses old was m answer new now ⊎ CatchCatches old was m answer new now
+  CatchPolls old was m answer new now = CatchKindPolls old.kind old.panic_handler was m answer new.kind new.panic_handler now

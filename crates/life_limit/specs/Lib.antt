@@ -1,6 +1,6 @@
 pub mod Catch
-pub mod Length
+pub mod History
 pub mod Lending
+pub mod Length
 pub mod Limit
 pub mod LimitBody
-pub mod Stands

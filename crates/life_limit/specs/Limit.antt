@@ -1,8 +1,8 @@
 -- What `RequestBodyLimit` does: it refuses a request that tells too long a body, and bounds the body of any other.
-use Rattle.std.specs.Prelude.{◌≡◌, ℕ, min, nat_lt, Bool, true, false, Option, Some, None, Result, Ok, Err, IfSome, IfOk, codes}
+use Rattle.std.specs.Prelude.{◌≡◌, ℕ, min, nat_lt, Bool, true, false, Option, Some, None, Result, Ok, Err, IfOk, codes, ⊤}
 use Rattle.life_core.specs.Full.{full_of}
 use Rattle.life_core.specs.Limited.{limited_of}
-use Rattle.life_core.specs.Meaning.{Polls, Leaves, Readies, Calls, Reply, LeavesIfAny, spent}
+use Rattle.life_core.specs.Calls.{Forwards, Polls, Abandons, Readies, Calls, Reply, spent}
 use Rattle.life_core.specs.Message.{IsText}
 use Rattle.life_core.specs.Moment.{Moment}
 use Rattle.life_core.specs.Recorded.{Recorded}
@@ -10,12 +10,13 @@ use Rattle.life_core.specs.declared.body.limited.Limited.{Limited}
 use Rattle.life_core.specs.declared.message.Request.{Request}
 use Rattle.life_core.specs.declared.message.Response.{Response}
 use Rattle.life_core.specs.declared.message.ResponseHead.{ResponseHead}
-use Rattle.life_core.specs.declared.poll.Poll.{Poll}
 use Rattle.life_core.specs.declared.poll.Poll.TheVariants.{Ready, Pending}
 use Rattle.life_core.specs.declared.recorder.NoMemory.{NoMemory}
 use Rattle.life_limit.specs.Length.{declared}
 use Rattle.life_limit.specs.declared.limit.body.ResponseBody.{ResponseBody}
 use Rattle.life_limit.specs.declared.limit.body.ResponseBody.TheVariants.{PayloadTooLarge, Body}
+use Rattle.life_limit.specs.declared.limit.future.Kind.{Kind}
+use Rattle.life_limit.specs.declared.limit.future.Kind.TheVariants as kind
 use Rattle.life_limit.specs.declared.limit.future.ResponseFuture.{ResponseFuture}
 use Rattle.life_limit.specs.declared.limit.layer.RequestBodyLimitLayer.{RequestBodyLimitLayer}
 use Rattle.life_limit.specs.declared.limit.service.RequestBodyLimit.{RequestBodyLimit}
@@ -32,18 +33,29 @@ limit_round layer inner = limit_service inner layer.limit
 abbrev pub limit_inner : {S : Type 0} → RequestBodyLimit S → S
 limit_inner s = s.inner
 
--- the future over an inner one, or over none
-abbrev pub future_of : {F : Type 0} → Option F → ResponseFuture F
-future_of inner = record { inner = inner }
+-- the future over an inner one, and that of a request that is too large
+abbrev pub future_over : {F : Type 0} → F → ResponseFuture F
+future_over future = record { kind = kind.Future future }
+
+abbrev pub too_large_future : {F : Type 0} → ResponseFuture F
+too_large_future = record { kind = kind.PayloadTooLarge }
 
 abbrev pub LimitMay : {S : Type 0} → (S → Type 0) → RequestBodyLimit S → Type 0
 LimitMay may s = may s.inner
 
-abbrev pub LimitFutureMay : {F : Type 0} → (F → Type 0) → ResponseFuture F → Type 0
-LimitFutureMay may f = IfSome f.inner may
+abbrev pub KindMay : {F : Type 0} → (F → Type 0) → Kind F → Type 0
+KindMay may (kind.Future f) = may f
+KindMay may kind.PayloadTooLarge = ⊤
 
-abbrev pub LimitLeaves : {F : Type 0} → Leaves F → Leaves (ResponseFuture F)
-LimitLeaves leaves old was m answer now = LeavesIfAny leaves old.inner was m answer now
+abbrev pub LimitFutureMay : {F : Type 0} → (F → Type 0) → ResponseFuture F → Type 0
+LimitFutureMay may f = KindMay may f.kind
+
+abbrev pub KindAbandons : {F : Type 0} → Abandons F → Abandons (Kind F)
+KindAbandons abandons (kind.Future f) was m answer now = abandons f was m answer now
+KindAbandons abandons kind.PayloadTooLarge was m answer now = (answer ≡ Ok tt) × (now ≡ was)
+
+abbrev pub LimitAbandons : {F : Type 0} → Abandons F → Abandons (ResponseFuture F)
+LimitAbandons abandons old was m answer now = KindAbandons abandons old.kind was m answer now
 
 -- a length is told, and it is above the limit
 abbrev pub is_above : ℕ → Option ℕ → Bool
@@ -63,28 +75,25 @@ is_large limit req = is_above limit (declared req.head.parts.headers)
 abbrev pub limited : {B X : Type 0} → ℕ → Request B X → Request (Limited B) X
 limited limit req = record { head = req.head; body = limited_of req.body (room_of limit (declared req.head.parts.headers)) }
 
--- the inner answer of readiness; the layer's own parts stay
-pub record LimitReadies {S E : Type 0} (readies : Readies S E) (old : RequestBodyLimit S) (was : Recorded) (m : Moment)
-    (answer : Poll (Result Unit E)) (new : RequestBodyLimit S) (now : Recorded) : Type 0 where
-  pub inner : readies old.inner was m answer new.inner now
-  pub same : new ≡ record old { inner = new.inner }
+abbrev pub LimitReadies : {S E : Type 0} → Readies S E → Readies (RequestBodyLimit S) E
+LimitReadies = Forwards limit_inner (λ s inner. record s { inner = inner })
 
--- the body is given up, and the future holds no inner one
-pub record RefusedBy {B F : Type 0} (leaves : Leaves B) (body : B) (was : Recorded) (m : Moment)
+-- the body is abandoned, and the future says that the request was too large
+pub record RefusedBy {B F : Type 0} (abandons : Abandons B) (body : B) (was : Recorded) (m : Moment)
     (answer : Result (ResponseFuture F) NoMemory) (now : Recorded) : Type 0 where
-  pub left : leaves body was m (spent answer) now
-  pub future : IfOk answer (λ f. f ≡ future_of None)
+  pub left : abandons body was m (spent answer) now
+  pub future : IfOk answer (λ f. f ≡ too_large_future)
 
 -- the inner call, and a future over what it gave
 abbrev pub CallGives : {S R F : Type 0} → Calls S R F → S → R → Recorded → Moment → Result (ResponseFuture F) NoMemory → S → Recorded → Type 0
-CallGives {F = F} calls old req was m (Ok f) new now = (given : F) × calls old req was m (Ok given) new now × (f ≡ future_of (Some given))
+CallGives {F = F} calls old req was m (Ok f) new now = (given : F) × calls old req was m (Ok given) new now × (f ≡ future_over given)
 CallGives calls old req was m (Err e) new now = calls old req was m (Err e) new now
 
-module _ {S B X F : Type 0} (calls : Calls S (Request (Limited B) X) F) (leaves : Leaves B) where
+module _ {S B X F : Type 0} (calls : Calls S (Request (Limited B) X) F) (abandons : Abandons B) where
   -- the inner service is not called
   pub record LimitRefuses (old : RequestBodyLimit S) (req : Request B X) (was : Recorded) (m : Moment)
       (answer : Result (ResponseFuture F) NoMemory) (new : RequestBodyLimit S) (now : Recorded) : Type 0 where
-    pub refused : RefusedBy leaves req.body was m answer now
+    pub refused : RefusedBy abandons req.body was m answer now
     pub same : new ≡ old
 
   -- the inner service is called with the body bounded
@@ -122,12 +131,12 @@ module _ {F B X E : Type 0} (polls : Polls F (Result (Response B X) E)) (is_ext 
   InnerReplies old was m (Ok Pending) new now = polls old was m (Ok Pending) new now
   InnerReplies old was m (Err e) new now = polls old was m (Err e) new now
 
-  -- a future over none says that the request was too large
-  abbrev pub RepliesWithin : Polls (Option F) (Result (Response (ResponseBody B) X) E)
-  RepliesWithin None was m answer None now = SaysTooLarge is_ext answer × (now ≡ was)
-  RepliesWithin None was m answer (Some g) now = ⊥
-  RepliesWithin (Some f) was m answer None now = ⊥
-  RepliesWithin (Some f) was m answer (Some g) now = InnerReplies f was m answer g now
+  -- the inner answer, or that the request was too large
+  abbrev pub KindPolls : Polls (Kind F) (Result (Response (ResponseBody B) X) E)
+  KindPolls kind.PayloadTooLarge was m answer kind.PayloadTooLarge now = SaysTooLarge is_ext answer × (now ≡ was)
+  KindPolls kind.PayloadTooLarge was m answer (kind.Future g) now = ⊥
+  KindPolls (kind.Future f) was m answer kind.PayloadTooLarge now = ⊥
+  KindPolls (kind.Future f) was m answer (kind.Future g) now = InnerReplies f was m answer g now
 
   abbrev pub LimitPolls : Polls (ResponseFuture F) (Result (Response (ResponseBody B) X) E)
-  LimitPolls old was m answer new now = RepliesWithin old.inner was m answer new.inner now
+  LimitPolls old was m answer new now = KindPolls old.kind was m answer new.kind now

@@ -1,8 +1,8 @@
 -- The bodies of `RequestBodyLimit`'s responses: an inner one, or a text.
 use Rattle.std.specs.Prelude.{ℕ, Bool, List, Option, ⊤}
-use Rattle.life_core.specs.Boxed.{NeverFaults}
-use Rattle.life_core.specs.Full.{FullFrames, LeavesNothing, full_ends, full_hints}
-use Rattle.life_core.specs.Meaning.{Frames, Leaves}
+use Rattle.life_core.specs.UnsyncBoxBody.{NeverFaults}
+use Rattle.life_core.specs.Full.{FullFrames, NothingToAbandon, full_ends, full_hints}
+use Rattle.life_core.specs.Calls.{Frames, Abandons}
 use Rattle.life_limit.specs.declared.limit.body.ResponseBody.{ResponseBody}
 use Rattle.life_limit.specs.declared.limit.body.ResponseBody.TheVariants.{PayloadTooLarge, Body}
 
@@ -19,9 +19,9 @@ pub default_may_by : {B : Type 0} {is_default may : B → Type 0} → ((b : B) �
 default_may_by law (Body b) d = law b d
 default_may_by law (PayloadTooLarge b) d = tt
 
-abbrev pub LimitBodyLeaves : {B : Type 0} → Leaves B → Leaves (ResponseBody B)
-LimitBodyLeaves leaves (Body b) was m answer now = leaves b was m answer now
-LimitBodyLeaves leaves (PayloadTooLarge b) was m answer now = LeavesNothing b was m answer now
+abbrev pub LimitBodyAbandons : {B : Type 0} → Abandons B → Abandons (ResponseBody B)
+LimitBodyAbandons abandons (Body b) was m answer now = abandons b was m answer now
+LimitBodyAbandons abandons (PayloadTooLarge b) was m answer now = NothingToAbandon b was m answer now
 
 -- it answers as the body in it, which stays of its kind
 abbrev pub LimitBodyFrames : {B E : Type 0} → Frames B (List ℕ) E → Frames (ResponseBody B) (List ℕ) E

@@ -5,7 +5,7 @@ use std::env::args;
 use std::io::ErrorKind;
 use std::rt::Env;
 
-/// The arguments after the program's name, or none where one is no text. The one error is want of memory.
+/// The arguments after the program's name, or none where one is no text.
 pub fn words_of(rt: &(impl Env + AllocGlobal)) -> Got<Vec<String>> {
     match args(rt) {
         Ok(words) => Ok(words.skip(1).collect(rt.alloc())?),

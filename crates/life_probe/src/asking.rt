@@ -89,7 +89,7 @@ pub fn frame<B: Body<Log>>(
     body.poll_frame(&mut cx)
 }
 
-/// Gives up a future or a body at this time.
+/// Abandons a future or a body at this time.
 pub fn abandoned<F: Spend<Log>>(alloc: Global, value: F, now: u64, log: &mut Log) -> Got<()>
     requires { F.may value }
 {

@@ -77,7 +77,7 @@ fn sum_of_seven(alloc: Global) -> Got<HeaderMap> {
 impl<L: Recorder> Spend<L> for ProbeBody {
     ghost may = { λ _. ⊤ };
 
-    ghost leaves = { λ _ _ _ _ _. ⊤ };
+    ghost abandons = { λ _ _ _ _ _. ⊤ };
 
     fn abandon(self, _cx: &mut Cx<'_, L>) -> Got<()> {
         Ok(())

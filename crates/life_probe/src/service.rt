@@ -96,7 +96,7 @@ pub struct ProbeFuture<B, X> {
 impl<B: Spend<L>, X: Drop, L: Recorder> Spend<L> for ProbeFuture<B, X> {
     ghost may = { λ future. IfSome future.request (λ request. B.may request.body) };
 
-    ghost leaves = { λ _ _ _ _ _. ⊤ };
+    ghost abandons = { λ _ _ _ _ _. ⊤ };
 
     fn abandon(self, cx: &mut Cx<'_, L>) -> Got<()> {
         let ProbeFuture {

@@ -10,13 +10,13 @@ use Rattle.std.proofs.Math.ListN.{drop_of_length-le}
 use Rattle.life_script.specs.declared.error.DriveError.{DriveError}
 use Rattle.life_script.specs.declared.error.DriveError.TheVariants.{ClockBack, NoRequest}
 use Rattle.life_script.specs.declared.scenario.Step.{Step}
-use Rattle.life_script.specs.ScriptView.{ScriptView, ScenarioView}
+use Rattle.life_script.specs.Scenario.{ScriptView, ScenarioView}
 use Rattle.life_script.specs.declared.checks.TheConstants.{MAX_HEADER_VALUES}
 use Rattle.life_script.specs.declared.scenario.BodyItem.{BodyItem}
 use Rattle.life_script.specs.declared.scenario.BodyItem.TheVariants.{Trailers}
 use Rattle.life_script.specs.declared.scenario.Then.TheVariants.{Respond}
 use Rattle.life_script.specs.Headers.{Headers}
-use Rattle.life_script.specs.Views.{ReplyView}
+use Rattle.life_script.specs.Reply.{ReplyView}
 use Rattle.life_script.specs.Valid.{is_over, is_item_over, is_message_over, is_reply_over, is_then_over, is_script_over, is_back, verdict_from, unless_over, IsValid, BodyFits, ReplyFits, ScriptFits}
 
 -- where there are r requests

@@ -3,7 +3,7 @@ use Rattle.std.proofs.Common.{◌≡◌, ℕ, List, Some, ap, ◌∙◌}
 use Rattle.serde_json.specs.Data.{Data}
 use Rattle.serde_json.specs.Read.{read as read_text}
 use Rattle.life_script.specs.declared.scenario.Limits.{Limits}
-use Rattle.life_script.specs.ScriptView.{ScenarioView}
+use Rattle.life_script.specs.Scenario.{ScenarioView}
 use Rattle.life_script.specs.Reading.{Read, Bad, Unbuilt, Good, shape, Reads, IsBadScenario, IsNotBuilt}
 
 good_not_bad : {A : Type 0} (r : Read A) (a : A) → r ≡ Good a → r ≡ Bad → ⊥

@@ -1,7 +1,7 @@
 pub mod Headers
 pub mod Reading
-pub mod ScriptView
+pub mod Reply
+pub mod Scenario
 pub mod Texts
-pub mod ToldView
+pub mod Told
 pub mod Valid
-pub mod Views

@@ -21,8 +21,8 @@ use Rattle.life_script.specs.declared.scenario.Step.{Step}
 use Rattle.life_script.specs.declared.scenario.Then.{Then}
 use Rattle.life_script.specs.declared.scenario.Then.TheVariants.{Pending, Panic, Fail, Respond}
 use Rattle.life_script.specs.Headers.{Headers}
-use Rattle.life_script.specs.ScriptView.{ScriptView, ScenarioView}
-use Rattle.life_script.specs.Views.{ReplyView}
+use Rattle.life_script.specs.Scenario.{ScriptView, ScenarioView}
+use Rattle.life_script.specs.Reply.{ReplyView}
 
 -- What a part says: it has not the shape, it has the shape with something in it that is not built yet,
 -- or it is good.

@@ -10,8 +10,8 @@ use Rattle.life_script.specs.declared.scenario.BodyItem.TheVariants.{Chunk, Trai
 use Rattle.life_script.specs.declared.scenario.Step.{Step}
 use Rattle.life_script.specs.declared.scenario.Then.{Then}
 use Rattle.life_script.specs.declared.scenario.Then.TheVariants.{Pending, Panic, Fail, Respond}
-use Rattle.life_script.specs.ScriptView.{ScriptView, ScenarioView}
-use Rattle.life_script.specs.Views.{ReplyView}
+use Rattle.life_script.specs.Scenario.{ScriptView, ScenarioView}
+use Rattle.life_script.specs.Reply.{ReplyView}
 
 -- ---- headers
 

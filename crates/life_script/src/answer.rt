@@ -31,6 +31,6 @@ pub enum Answer {
     End,
     /// A fault of the body.
     Fault(BodyError<Text>),
-    /// What was live was given up.
+    /// What was live was abandoned.
     Dropped,
 }

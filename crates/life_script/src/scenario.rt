@@ -55,19 +55,10 @@ pub type BodyItems = List<BodyItem>;
 impl Twin for BodyItem {
     fn twin(&self, alloc: Global) -> Got<BodyItem> {
         match self {
-            BodyItem::Chunk(bytes) => match bytes.twin(alloc) {
-                Ok(bytes) => Ok(BodyItem::Chunk(bytes)),
-                Err(no_memory) => Err(no_memory),
-            },
-            BodyItem::Trailers(headers) => match headers.twin(alloc) {
-                Ok(headers) => Ok(BodyItem::Trailers(headers)),
-                Err(no_memory) => Err(no_memory),
-            },
+            BodyItem::Chunk(bytes) => Ok(BodyItem::Chunk(bytes.twin(alloc)?)),
+            BodyItem::Trailers(headers) => Ok(BodyItem::Trailers(headers.twin(alloc)?)),
             BodyItem::Pending => Ok(BodyItem::Pending),
-            BodyItem::Fault(text) => match text.twin(alloc) {
-                Ok(text) => Ok(BodyItem::Fault(text)),
-                Err(no_memory) => Err(no_memory),
-            },
+            BodyItem::Fault(text) => Ok(BodyItem::Fault(text.twin(alloc)?)),
         }
     }
 }
@@ -82,7 +73,7 @@ pub struct Reply {
 }
 
 impl Model for Reply {
-    ghost use Rattle.life_script.specs.Views.{ReplyView};
+    ghost use Rattle.life_script.specs.Reply.{ReplyView};
 
     ghost Value = { ReplyView };
 
@@ -152,10 +143,7 @@ impl Twin for CallItem {
     fn twin(&self, alloc: Global) -> Got<CallItem> {
         match self {
             CallItem::Serve => Ok(CallItem::Serve),
-            CallItem::Panic(text) => match text.twin(alloc) {
-                Ok(text) => Ok(CallItem::Panic(text)),
-                Err(no_memory) => Err(no_memory),
-            },
+            CallItem::Panic(text) => Ok(CallItem::Panic(text.twin(alloc)?)),
         }
     }
 }
@@ -172,7 +160,7 @@ pub struct Script {
 }
 
 impl Model for Script {
-    ghost use Rattle.life_script.specs.ScriptView.{ScriptView};
+    ghost use Rattle.life_script.specs.Scenario.{ScriptView};
 
     ghost Value = { ScriptView };
 
@@ -231,7 +219,7 @@ pub struct Scenario {
 }
 
 impl Model for Scenario {
-    ghost use Rattle.life_script.specs.ScriptView.{ScenarioView};
+    ghost use Rattle.life_script.specs.Scenario.{ScenarioView};
 
     ghost Value = { ScenarioView };
 

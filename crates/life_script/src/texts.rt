@@ -351,7 +351,7 @@ impl TextBuilder {
     }
 }
 
-/// The text of an answer. The one error is want of memory.
+/// The text of an answer.
 pub fn answer_text(alloc: Global, answer: &Answer) -> Got<Octets>
     ensures { IfOk result (λ octets. octets ≡ answer_text answer.now) }
 {
@@ -360,7 +360,7 @@ pub fn answer_text(alloc: Global, answer: &Answer) -> Got<Octets>
     Ok(text.finish())
 }
 
-/// The text of an event. The one error is want of memory.
+/// The text of an event.
 pub fn event_text(alloc: Global, event: &Event) -> Got<Octets>
     ensures { IfOk result (λ octets. octets ≡ event_text event.now) }
 {

@@ -11,7 +11,7 @@ pub struct Turn {
 }
 
 impl Model for Turn {
-    ghost use Rattle.life_script.specs.ToldView.{TurnView};
+    ghost use Rattle.life_script.specs.Told.{TurnView};
 
     ghost Value = { TurnView };
 
@@ -29,7 +29,7 @@ pub struct Told {
 }
 
 impl Model for Told {
-    ghost use Rattle.life_script.specs.ToldView.{ToldView};
+    ghost use Rattle.life_script.specs.Told.{ToldView};
 
     ghost Value = { ToldView };
 

@@ -9,16 +9,16 @@ use Rattle.life_core.specs.declared.recorder.NoMemory.{NoMemory}
 use Rattle.life_drop.proofs.DropFollows.{drop_body_follows, drop_follows, drop_serves}
 use Rattle.life_drop.proofs.NoteFollows.{note_body, note_future, note_records, note_start}
 use Rattle.life_drop.specs.Note.{noting}
-use Rattle.life_drop.specs.Stands.{ended}
+use Rattle.life_drop.specs.History.{ended}
 use Rattle.life_session.proofs.CourseLaws.{course_told, keeps}
 use Rattle.life_session.specs.Course.{FollowsCourse, course_of, course_table}
 use Rattle.life_session.specs.Table.{KeepsTable}
 use Rattle.life_stack.proofs.ServiceLaws.CaughtFollows.{caught_body, caught_follows, caught_keeps, caught_serves}
 use Rattle.life_stack.proofs.StackLaws.Keeping.{at_most_one}
-use Rattle.life_stack.specs.Service.Stands.{Head, Heads, script_body_history}
+use Rattle.life_stack.specs.Service.History.{Head, Heads, script_body_history}
 use Rattle.life_time.proofs.DeadlineFollows.{deadline_body_follows, deadline_follows, deadline_serves}
-use Rattle.life_time.specs.Stands.{undue}
-use Rattle.life_second_stack.specs.Stack.{Key, SecondFuture, SecondRequest, SecondStack, second_body_leaves, second_calls, second_ends, second_frames, second_histories, second_leaves, second_meaning, second_polls, second_standing}
+use Rattle.life_time.specs.History.{undue}
+use Rattle.life_second_stack.specs.Stack.{Key, SecondFuture, SecondRequest, SecondStack, second_body_abandons, second_calls, second_ends, second_frames, second_histories, second_abandons, second_meaning, second_polls, second_standing}
 use Rattle.life_second_stack.specs.declared.stack.TheConstants.{ROOM}
 
 -- THE SERVICE.
@@ -34,18 +34,18 @@ serves_on k s req was m (Err e) new now stands c = (serves k).refused s req was 
 
 -- ITS FUTURES AND BODIES.
 
-future : (k : Key) (t0 : ℕ) → FutureFollows second_polls second_leaves Heads (second_standing.future k t0) (second_standing.body k t0) (second_histories.future k t0)
+future : (k : Key) (t0 : ℕ) → FutureFollows second_polls second_abandons Heads (second_standing.future k t0) (second_standing.body k t0) (second_histories.future k t0)
 future k t0 = deadline_follows _ _ _ _ _ _ k.0
     (drop_follows _ _ _ _ _ _ _ _ _ _ _ _ _ _ (note_body Heads (λ h. h.0) (λ g head h. h.0.status_is) t0) _ (noting drop_kind.Future t0) _ note_records (caught_follows ROOM k.1.script) caught_body)
 
-body : (k : Key) (t0 : ℕ) → BodyFollows second_frames second_body_leaves second_ends (second_standing.body k t0) (second_histories.body k t0)
+body : (k : Key) (t0 : ℕ) → BodyFollows second_frames second_body_abandons second_ends (second_standing.body k t0) (second_histories.body k t0)
 body k t0 = deadline_body_follows _ _ _ _ _ k.0 (drop_body_follows _ _ _ _ _ (λ (h : Head). noting (drop_kind.Body h.0) t0) _ _ note_records caught_body)
 
 future_once : (k : Key) (t0 : ℕ) (w : Where) (t : ℕ) → length (left_at (second_histories.future k t0) w t) ≤ 1
 future_once k t0 (Waiting past) t = omega arith
 future_once k t0 Answered t = omega arith
 
-follows : FollowsCourse second_calls second_polls second_leaves second_frames second_body_leaves second_ends second_histories second_standing
+follows : FollowsCourse second_calls second_polls second_abandons second_frames second_body_abandons second_ends second_histories second_standing
 follows = record {
   service = serves;
   kept = serves_on;
@@ -56,6 +56,6 @@ follows = record {
   body_once = λ k t0 plan past t. at_most_one (ended (script_body_history plan.1.1) (undue plan.0 k.0 past)) _;
 }
 
-pub second_keeps : KeepsTable second_calls second_polls second_leaves second_frames second_body_leaves second_ends second_meaning.places second_meaning.table
-second_keeps = keeps second_calls second_polls second_leaves second_frames second_body_leaves second_ends second_histories second_standing follows
+pub second_keeps : KeepsTable second_calls second_polls second_abandons second_frames second_body_abandons second_ends second_meaning.places second_meaning.table
+second_keeps = keeps second_calls second_polls second_abandons second_frames second_body_abandons second_ends second_histories second_standing follows
     (course_table second_histories) (λ k acts c. course_of second_histories k acts ≡ c) (course_told second_histories)

@@ -1,10 +1,10 @@
--- A worked scenario: a body that is given up past its deadline counts as dropped early.
+-- A worked scenario: a body that is abandoned past its deadline counts as dropped early.
 use Rattle.std.specs.Prelude.{◌≡◌, refl, List, [], ◌∷◌, codes, true, false}
 use Rattle.life_core.specs.declared.body.BodyError.TheVariants.{Elapsed}
 use Rattle.life_core.specs.declared.event.DropKind.TheVariants as drop_kind
 use Rattle.life_core.specs.declared.event.Event.TheVariants as event
 use Rattle.life_core.specs.declared.latency.LatencyUnit.TheVariants.{Nanos}
-use Rattle.life_script.specs.ScriptView.{ScriptView}
+use Rattle.life_script.specs.Scenario.{ScriptView}
 use Rattle.life_script.specs.declared.answer.Answer.TheVariants as ans
 use Rattle.life_script.specs.declared.scenario.Act.TheVariants as act
 use Rattle.life_script.specs.declared.scenario.BodyItem.TheVariants as body_item

@@ -1,17 +1,17 @@
 -- Deadlines of bodies round the detection of early drops: the calls, the histories, where values stand, and the table.
 use Rattle.std.specs.Prelude.{◌≡◌, ℕ, ◌-◌, List, [], ◌∷◌, Bool, Result, ⊤}
-use Rattle.life_core.specs.Limited.{LimitedLeaves}
-use Rattle.life_core.specs.Meaning.{Calls, Frames, Leaves, Polls}
+use Rattle.life_core.specs.Limited.{LimitedAbandons}
+use Rattle.life_core.specs.Calls.{Calls, Frames, Abandons, Polls}
 use Rattle.life_core.specs.declared.body.BodyError.{BodyError}
 use Rattle.life_core.specs.declared.body.limited.Limited.{Limited}
 use Rattle.life_core.specs.declared.event.DropKind.TheVariants as drop_kind
 use Rattle.life_core.specs.declared.message.Request.{Request}
 use Rattle.life_core.specs.declared.message.Response.{Response}
-use Rattle.life_drop.specs.EarlyBody.{EarlyBodyLeaves, EarlyBodyMay, EarlyFrames, early_ends}
-use Rattle.life_drop.specs.EarlyFuture.{EarlyFutureLive, EarlyFutureMay, EarlyLeaves, EarlyPolls}
+use Rattle.life_drop.specs.EarlyBody.{EarlyBodyAbandons, EarlyBodyMay, EarlyFrames, early_ends}
+use Rattle.life_drop.specs.EarlyFuture.{EarlyFutureLive, EarlyFutureMay, EarlyAbandons, EarlyPolls}
 use Rattle.life_drop.specs.EarlyService.{EarlyCalls, EarlyMay}
 use Rattle.life_drop.specs.Note.{NotesBody, NotesDrop, NotesFuture, NotesStart, drop_record, noting}
-use Rattle.life_drop.specs.Stands.{DropBodyStands, DropServes, DropStands, drop_body_history, drop_history}
+use Rattle.life_drop.specs.History.{DropBodyStands, DropServes, DropStands, drop_body_history, drop_history}
 use Rattle.life_drop.specs.declared.on_early_drop.body.OnEarlyDropBody.{OnEarlyDropBody}
 use Rattle.life_drop.specs.declared.on_early_drop.future.OnEarlyDropFuture.{OnEarlyDropFuture}
 use Rattle.life_drop.specs.declared.on_early_drop.note.NoteDrop.{NoteDrop}
@@ -19,16 +19,16 @@ use Rattle.life_drop.specs.declared.on_early_drop.note.NoteDropped.{NoteDropped}
 use Rattle.life_drop.specs.declared.on_early_drop.service.OnEarlyDropService.{OnEarlyDropService}
 use Rattle.life_session.specs.Course.{Histories, Standing, course_of, course_places, course_table}
 use Rattle.life_session.specs.Table.{Meaning}
-use Rattle.life_stack.specs.Service.Caught.{Caught, CaughtFuture, CaughtFutureLive, CaughtFutureMay, CaughtFutureStands, CaughtMay, CaughtServes, CaughtService, CaughtStands, caught_calls, caught_ends, caught_frames, caught_future_leaves, caught_history, caught_leaves, caught_may, caught_polls}
-use Rattle.life_stack.specs.Service.Script.{AsksFor, ScriptLeaves}
-use Rattle.life_stack.specs.Service.Stands.{BodyPlan, Head, Heads, script_body_history}
+use Rattle.life_stack.specs.Service.Caught.{Caught, CaughtFuture, CaughtFutureLive, CaughtFutureMay, CaughtFutureStands, CaughtMay, CaughtServes, CaughtService, CaughtStands, caught_calls, caught_ends, caught_frames, caught_future_abandons, caught_history, caught_abandons, caught_may, caught_polls}
+use Rattle.life_stack.specs.Service.Script.{AsksFor, ScriptAbandons}
+use Rattle.life_stack.specs.Service.History.{BodyPlan, Head, Heads, script_body_history}
 use Rattle.life_stack.specs.Table.Decision.{called_by}
 use Rattle.life_stack.specs.Table.Request.{Numbered, numbered, shown_headers}
 use Rattle.life_stack.specs.declared.service.body.ScriptBody.{ScriptBody}
 use Rattle.life_stack.specs.declared.service.ext.Ext.{Ext}
-use Rattle.life_time.specs.DeadlineBody.{DeadlineBodyLeaves, DeadlineBodyMay, DeadlineFrames, deadline_ends}
-use Rattle.life_time.specs.DeadlineService.{DeadlineCalls, DeadlineFutureMay, DeadlineLeaves, DeadlineMay, DeadlinePolls}
-use Rattle.life_time.specs.Stands.{DeadlineBodyStands, DeadlineServes, DeadlineStands, deadline_body_history, deadline_history}
+use Rattle.life_time.specs.DeadlineBody.{DeadlineBodyAbandons, DeadlineBodyMay, DeadlineFrames, deadline_ends}
+use Rattle.life_time.specs.DeadlineService.{DeadlineCalls, DeadlineFutureMay, DeadlineAbandons, DeadlineMay, DeadlinePolls}
+use Rattle.life_time.specs.History.{DeadlineBodyStands, DeadlineServes, DeadlineStands, deadline_body_history, deadline_history}
 use Rattle.life_time.specs.declared.timeout.deadline_body.DeadlineBody.{DeadlineBody}
 use Rattle.life_time.specs.declared.timeout.deadline_service.ResponseBodyDeadline.{ResponseBodyDeadline}
 use Rattle.life_time.specs.declared.timeout.deadline_service.ResponseBodyDeadlineFuture.{ResponseBodyDeadlineFuture}
@@ -50,19 +50,19 @@ abbrev pub SecondBody : Type 0
 SecondBody = DeadlineBody (OnEarlyDropBody Caught NoteDropped)
 
 abbrev pub second_calls : Calls SecondStack SecondRequest SecondFuture
-second_calls = DeadlineCalls (EarlyCalls caught_calls NotesFuture NotesStart (LimitedLeaves ScriptLeaves))
+second_calls = DeadlineCalls (EarlyCalls caught_calls NotesFuture NotesStart (LimitedAbandons ScriptAbandons))
 
 abbrev pub second_polls : Polls SecondFuture (Result (Response SecondBody Ext) (List ℕ))
-second_polls = DeadlinePolls (EarlyPolls caught_polls NotesBody caught_ends caught_leaves)
+second_polls = DeadlinePolls (EarlyPolls caught_polls NotesBody caught_ends caught_abandons)
 
-abbrev pub second_leaves : Leaves SecondFuture
-second_leaves = DeadlineLeaves (EarlyLeaves caught_future_leaves NotesDrop)
+abbrev pub second_abandons : Abandons SecondFuture
+second_abandons = DeadlineAbandons (EarlyAbandons caught_future_abandons NotesDrop)
 
 abbrev pub second_frames : Frames SecondBody (List ℕ) (BodyError (List ℕ))
 second_frames = DeadlineFrames (EarlyFrames caught_frames caught_ends)
 
-abbrev pub second_body_leaves : Leaves SecondBody
-second_body_leaves = DeadlineBodyLeaves (EarlyBodyLeaves caught_leaves NotesDrop)
+abbrev pub second_body_abandons : Abandons SecondBody
+second_body_abandons = DeadlineBodyAbandons (EarlyBodyAbandons caught_abandons NotesDrop)
 
 abbrev pub second_ends : SecondBody → Bool
 second_ends = deadline_ends (early_ends caught_ends)

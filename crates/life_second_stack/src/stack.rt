@@ -1,5 +1,5 @@
 //! Deadlines of bodies round the detection of early drops, over the scripted service with its panics caught. Past
-//! its deadline a body is polled no more, so the inner layer sees no end of it: given up then, it counts as
+//! its deadline a body is polled no more, so the inner layer sees no end of it: abandoned then, it counts as
 //! dropped early, which under the eight layers it does not.
 use bytes::Bytes;
 use http_body::Frame;
@@ -93,7 +93,7 @@ impl Driven for SecondLayers {
         future.poll(cx)
     }
 
-    fn leave_future<L: Recorder>(future: SecondFuture, cx: &mut Cx<'_, L>) -> Got<()> {
+    fn abandon_future<L: Recorder>(future: SecondFuture, cx: &mut Cx<'_, L>) -> Got<()> {
         future.abandon(cx)
     }
 
@@ -108,9 +108,9 @@ impl Driven for SecondLayers {
         Body::<Log>::is_end_stream(body)
     }
 
-    fn leave_body<L: Recorder>(body: SecondBody, cx: &mut Cx<'_, L>) -> Got<()> {
+    fn abandon_body<L: Recorder>(body: SecondBody, cx: &mut Cx<'_, L>) -> Got<()> {
         body.abandon(cx)
     }
 
-    fn tells_nothing() {}
+    fn idles() {}
 }

@@ -3,8 +3,8 @@ use Rattle.std.proofs.Common.{◌≡◌, ℕ, zero, suc, ◌+◌, List, [], ◌�
 use Rattle.std.proofs.lemmas.List.Sums.{sum_by-cons}
 use Rattle.std.specs.Prelude.{slice_get, if◌then◌else◌, ◌==◌}
 use Rattle.life_script.proofs.CheckLemmas.{valid_requests}
-use Rattle.life_script.specs.ScriptView.{ScriptView, ScenarioView}
-use Rattle.life_script.specs.ToldView.{ToldView, TurnView}
+use Rattle.life_script.specs.Scenario.{ScriptView, ScenarioView}
+use Rattle.life_script.specs.Told.{ToldView, TurnView}
 use Rattle.life_script.specs.Valid.{IsValid}
 use Rattle.life_script.specs.declared.scenario.Step.{Step}
 use Rattle.life_session.specs.Acts.{Own, own, steps_of}

@@ -9,7 +9,7 @@ use Rattle.std.proofs.lemmas.List.Sums.{count_by-le-length, sum_by-take-le}
 use Rattle.std.proofs.lemmas.Option.{slice_get-get_or}
 use Rattle.life_script.specs.declared.answer.Answer.TheVariants.{Called}
 use Rattle.life_script.specs.declared.scenario.Step.{Step}
-use Rattle.life_script.specs.ToldView.{ToldView, TurnView}
+use Rattle.life_script.specs.Told.{ToldView, TurnView}
 use Rattle.life_session.proofs.ActLaws.{count_same}
 use Rattle.life_session.specs.Acts.{steps_of}
 use Rattle.life_session.specs.Report.{Fits, end_lines, ends_lines, step_lines, steps_lines, turn_lines, turn_of}

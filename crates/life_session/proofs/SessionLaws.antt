@@ -10,8 +10,8 @@ use Rattle.std.proofs.Math.ListN.{set}
 use Rattle.std.specs.List.{All, AllZip}
 use Rattle.std.specs.Prelude.{slice_get, slice_set, ◌==◌}
 use Rattle.life_script.proofs.CheckLemmas.{valid_requests, valid_order}
-use Rattle.life_script.specs.ScriptView.{ScriptView, ScenarioView}
-use Rattle.life_script.specs.ToldView.{ToldView}
+use Rattle.life_script.specs.Scenario.{ScriptView, ScenarioView}
+use Rattle.life_script.specs.Told.{ToldView}
 use Rattle.life_script.specs.Valid.{IsValid}
 use Rattle.life_script.specs.declared.scenario.CallItem.TheVariants.{Serve}
 use Rattle.life_script.specs.declared.scenario.Step.{Step}

@@ -7,7 +7,7 @@ use Rattle.http_body.specs.declared.frame.Kind.TheVariants.{Data, Trailers}
 use Rattle.http_header.specs.HeaderMap.{Entries}
 use Rattle.life_core.specs.Fields.{fields}
 use Rattle.life_core.specs.History.{BodyFollows, BodyHistory, FutureFollows, FutureHistory, Latest, Said, Waits, Gives, Fails, ServiceFollows, Where, Waiting, Answered, left_at}
-use Rattle.life_core.specs.Meaning.{Calls, Frames, Leaves, Polls}
+use Rattle.life_core.specs.Calls.{Calls, Frames, Abandons, Polls}
 use Rattle.life_core.specs.Moment.{Moment}
 use Rattle.life_core.specs.Recorded.{Recorded}
 use Rattle.life_core.specs.declared.body.BodyError.{BodyError}
@@ -107,9 +107,9 @@ module _ {K H P : Type 0} (h : Histories K H P) (k : K) where
   recorded (Streamed t0 plan past) (t, act.Drop) = (h.body k t0 plan).left past t
   recorded Over x = []
 
-  -- what giving up records at the end
-  abbrev pub given_up : Course P → ℕ → List Event
-  given_up c t = recorded c (t, act.Drop)
+  -- what abandoning records at the end
+  abbrev pub abandoned : Course P → ℕ → List Event
+  abandoned c t = recorded c (t, act.Drop)
 
 -- THE TABLE of the histories themselves.
 
@@ -126,10 +126,10 @@ module _ {K H P : Type 0} (h : Histories K H P) where
   course_table k = record {
     answer = λ acts x. answered h k (course_of k acts) x;
     events = λ acts x. recorded h k (course_of k acts) x;
-    at_end = λ acts t. given_up h k (course_of k acts) t;
+    at_end = λ acts t. abandoned h k (course_of k acts) t;
   }
 
--- A TABLE that tells it.
+-- A TABLE that shows it.
 
 -- a poll of a body is not before those before it
 abbrev pub InTime : {P : Type 0} → Course P → Own → Type 0
@@ -148,10 +148,10 @@ module _ {K H P : Type 0} (h : Histories K H P) (table : K → Table) (At : K �
     pub events : (table k).events acts x ≡ recorded h k c x
     pub course : At k (acts ++ x ∷ []) (next h k c x)
 
-  pub record TellsCourse : Type 0 where
+  pub record ShowsCourse : Type 0 where
     pub first : (k : K) → At k [] Fresh
     pub turn : (k : K) (acts : List Own) (c : Course P) (x : Own) → At k acts c → InTime c x → Turns k acts c x
-    pub at_end : (k : K) (acts : List Own) (c : Course P) (t : ℕ) → At k acts c → (table k).at_end acts t ≡ given_up h k c t
+    pub at_end : (k : K) (acts : List Own) (c : Course P) (t : ℕ) → At k acts c → (table k).at_end acts t ≡ abandoned h k c t
 
 -- THE STACK that follows it.
 
@@ -193,15 +193,15 @@ module _ {K H P S R F B X : Type 0} (st : Standing K H P S R F B X) (At : K → 
     over = λ k acts. At k acts Over;
   }
 
-module _ {K H P S R F B X : Type 0} (calls : Calls S R F) (polls : Polls F (Result (Response B X) (List ℕ))) (leaves : Leaves F)
-    (frames : Frames B (List ℕ) (BodyError (List ℕ))) (body_leaves : Leaves B) (ends : B → Bool) (h : Histories K H P) (st : Standing K H P S R F B X) where
+module _ {K H P S R F B X : Type 0} (calls : Calls S R F) (polls : Polls F (Result (Response B X) (List ℕ))) (abandons : Abandons F)
+    (frames : Frames B (List ℕ) (BodyError (List ℕ))) (body_abandons : Abandons B) (ends : B → Bool) (h : Histories K H P) (st : Standing K H P S R F B X) where
   -- each value goes on by its history; abandoning one records at most one event
   pub record FollowsCourse : Type 0 where
     pub service : (k : K) → ServiceFollows calls (st.asks k) (st.serves k) (st.future k) (h.called k)
     pub kept : (k : K) (s : S) (req : R) (was : Recorded) (m : Moment) (made : Result F NoMemory) (new : S) (now : Recorded) →
         st.serves k s → calls s req was m made new now → st.serves k new
-    pub future : (k : K) (t0 : ℕ) → FutureFollows polls leaves st.heads (st.future k t0) (st.body k t0) (h.future k t0)
-    pub body : (k : K) (t0 : ℕ) → BodyFollows frames body_leaves ends (st.body k t0) (h.body k t0)
+    pub future : (k : K) (t0 : ℕ) → FutureFollows polls abandons st.heads (st.future k t0) (st.body k t0) (h.future k t0)
+    pub body : (k : K) (t0 : ℕ) → BodyFollows frames body_abandons ends (st.body k t0) (h.body k t0)
     pub shown : (said : H) (head : ResponseHead X) → st.heads said head → (head.parts.status ≡ (h.shown said).0) × (fields head.parts.headers ≡ (h.shown said).1)
     pub future_once : (k : K) (t0 : ℕ) (w : Where) (t : ℕ) → length (left_at (h.future k t0) w t) ≤ 1
     pub body_once : (k : K) (t0 : ℕ) (plan : P) (past : List ℕ) (t : ℕ) → length ((h.body k t0 plan).left past t) ≤ 1

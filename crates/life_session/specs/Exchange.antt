@@ -30,7 +30,7 @@ pub record IsFresh {F B : Type 0} (steps : ℕ) (e : Exchange F B) : Type 0 wher
   pub turns_left : steps ≤ e.turns.spare
 
 module _ {K N S R F B : Type 0} (m : Meaning K N S R F B) where
-  -- it may be polled and given up
+  -- it may be polled and abandoned
   abbrev pub MayGoOn : Live F B → Type 0
   MayGoOn live.Fresh = ⊤
   MayGoOn (live.Future f) = m.future_live f × m.future_may f

@@ -39,7 +39,7 @@ polls acts = polls_before_drop (after_call acts)
 abbrev pub dropped_at : List Own → Option ℕ
 dropped_at acts = first_drop (after_call acts)
 
--- when what was called is given up: at the first Drop after the Call, else at the end
+-- when what was called is abandoned: at the first Drop after the Call, else at the end
 abbrev pub drop_time : Option ℕ → ℕ → ℕ
 drop_time None end = end
 drop_time (Some d) end = d

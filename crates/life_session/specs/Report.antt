@@ -2,9 +2,9 @@
 use Rattle.std.specs.Prelude.{◌≡◌, ℕ, suc, ◌+◌, ◌<◌, ◌==◌, List, [], ◌∷◌, ◌++◌, length, slice_get, Option, Some, codes, decimal, flat_map, if◌then◌else◌}
 use Rattle.std.specs.Option.{option_and_then, option_map_or}
 use Rattle.life_core.specs.declared.event.Event.{Event}
-use Rattle.life_script.specs.ScriptView.{ScriptView, ScenarioView}
+use Rattle.life_script.specs.Scenario.{ScriptView, ScenarioView}
 use Rattle.life_script.specs.Texts.{act_text, answer_text, event_text}
-use Rattle.life_script.specs.ToldView.{ToldView, TurnView}
+use Rattle.life_script.specs.Told.{ToldView, TurnView}
 use Rattle.life_script.specs.declared.scenario.Step.{Step}
 use Rattle.life_session.specs.Acts.{own, steps_of}
 use Rattle.life_session.specs.Table.{Table, story_by}

@@ -2,8 +2,8 @@
 use Rattle.std.specs.Prelude.{◌≡◌, ℕ, ◌+◌, ◌≤◌, suc, List, [], ◌∷◌, ◌++◌, length, take, drop, slice_get, slice_set, Some, Ok, Err, Result}
 use Rattle.std.specs.List.{All}
 use Rattle.life_core.specs.declared.recorder.NoMemory.{NoMemory}
-use Rattle.life_script.specs.ScriptView.{ScriptView, ScenarioView}
-use Rattle.life_script.specs.ToldView.{ToldView}
+use Rattle.life_script.specs.Scenario.{ScriptView, ScenarioView}
+use Rattle.life_script.specs.Told.{ToldView}
 use Rattle.life_script.specs.Valid.{IsValid, verdict}
 use Rattle.life_script.specs.declared.error.DriveError.{DriveError}
 use Rattle.life_script.specs.declared.error.DriveError.TheVariants as error

@@ -6,17 +6,17 @@ use Rattle.http_header.specs.FieldValue.{FieldValue}
 use Rattle.http_header.specs.HeaderMap.{Entries}
 use Rattle.life_core.specs.Fields.{fields}
 use Rattle.life_core.specs.History.{Adds, Grew, NumbersStay}
-use Rattle.life_core.specs.Meaning.{Polls, Leaves, Frames, Calls}
+use Rattle.life_core.specs.Calls.{Polls, Abandons, Frames, Calls}
 use Rattle.life_core.specs.Moment.{Moment}
-use Rattle.life_core.specs.Recorded.{Recorded}
+use Rattle.life_core.specs.Recorded.{Recorded, none_counted}
 use Rattle.life_core.specs.declared.body.BodyError.{BodyError}
 use Rattle.life_core.specs.declared.event.Event.{Event}
 use Rattle.life_core.specs.declared.message.Response.{Response}
 use Rattle.life_core.specs.declared.poll.Poll.{Poll}
 use Rattle.life_core.specs.declared.poll.Poll.TheVariants.{Ready, Pending}
 use Rattle.life_core.specs.declared.recorder.NoMemory.{NoMemory}
-use Rattle.life_script.specs.ScriptView.{ScriptView}
-use Rattle.life_script.specs.ToldView.{TurnView, ToldView}
+use Rattle.life_script.specs.Scenario.{ScriptView}
+use Rattle.life_script.specs.Told.{TurnView, ToldView}
 use Rattle.life_script.specs.declared.answer.Answer.{Answer}
 use Rattle.life_script.specs.declared.answer.Answer.TheVariants as ans
 use Rattle.life_script.specs.declared.answer.Seen.{Seen}
@@ -139,7 +139,7 @@ module _ {K S R F B : Type 0} (at : Places K S R F B) (table : K → Table) wher
   -- the acts of which nothing is told
   pub record Idles : Type 0 where
     -- a log's numbers refuse no call
-    pub ready_at_rest : (k : K) (was : Recorded) → was.rest ≡ (0, 0, 0) → at.ready k was
+    pub ready_at_rest : (k : K) (was : Recorded) → was.rest ≡ none_counted → at.ready k was
     pub fresh_first : (k : K) → at.fresh k []
     pub fresh_polled : (k : K) (acts : List Own) (t : ℕ) → at.fresh k acts → IsIdleAct (table k) acts (t, act.Poll) × at.fresh k (acts ++ (t, act.Poll) ∷ [])
     pub fresh_dropped : (k : K) (acts : List Own) (t : ℕ) → at.fresh k acts → IsIdleAct (table k) acts (t, act.Drop) × at.fresh k (acts ++ (t, act.Drop) ∷ [])
@@ -150,8 +150,8 @@ module _ {K S R F B : Type 0} (at : Places K S R F B) (table : K → Table) wher
     pub over_end : (k : K) (acts : List Own) (t : ℕ) → at.over k acts → (table k).at_end acts t ≡ []
 
 -- each call of these relations answers and records by the table
-module _ {K S R F B X : Type 0} (calls : Calls S R F) (polls : Polls F (Result (Response B X) (List ℕ))) (leaves : Leaves F)
-    (frames : Frames B (List ℕ) (BodyError (List ℕ))) (body_leaves : Leaves B) (ends : B → Bool) (at : Places K S R F B) (table : K → Table) where
+module _ {K S R F B X : Type 0} (calls : Calls S R F) (polls : Polls F (Result (Response B X) (List ℕ))) (abandons : Abandons F)
+    (frames : Frames B (List ℕ) (BodyError (List ℕ))) (body_abandons : Abandons B) (ends : B → Bool) (at : Places K S R F B) (table : K → Table) where
   pub record KeepsTable : Type 0 where
     pub called : (k : K) (acts : List Own) (s : S) (req : R) (was : Recorded) (m : Moment) (made : Result F NoMemory) (new : S) (now : Recorded) →
         at.asks k req → at.fresh k acts → at.ready k was → at.serves k s → calls s req was m made new now → IfOk made (λ f. CalledAt at table k acts m.now was f now)
@@ -160,17 +160,17 @@ module _ {K S R F B X : Type 0} (calls : Calls S R F) (polls : Polls F (Result (
     pub polled : (k : K) (acts : List Own) (f : F) (was : Recorded) (m : Moment) (made : Result (Poll (Result (Response B X) (List ℕ))) NoMemory) (new : F) (now : Recorded) →
         at.waiting k acts f → polls f was m made new now → IfOk made (λ a. Polled ends at table k acts m.now was a new now)
     pub future_left : (k : K) (acts : List Own) (f : F) (was : Recorded) (m : Moment) (made : Result Unit NoMemory) (now : Recorded) →
-        at.waiting k acts f → leaves f was m made now → IfOk made (λ u. Dropped at table k acts m.now was now)
+        at.waiting k acts f → abandons f was m made now → IfOk made (λ u. Dropped at table k acts m.now was now)
     pub future_refused : (k : K) (acts : List Own) (f : F) (was : Recorded) (m : Moment) (made : Result Unit NoMemory) (now : Recorded) →
-        at.waiting k acts f → leaves f was m made now → IfErr made (λ e. was.spare ≡ 0)
+        at.waiting k acts f → abandons f was m made now → IfErr made (λ e. was.spare ≡ 0)
     pub answered_left : (k : K) (acts : List Own) (f : F) (was : Recorded) (m : Moment) (made : Result Unit NoMemory) (now : Recorded) →
-        at.answered k acts f → leaves f was m made now → IfOk made (λ u. Adds was now [])
+        at.answered k acts f → abandons f was m made now → IfOk made (λ u. Adds was now [])
     pub answered_refused : (k : K) (acts : List Own) (f : F) (was : Recorded) (m : Moment) (made : Result Unit NoMemory) (now : Recorded) →
-        at.answered k acts f → leaves f was m made now → IfErr made (λ e. ⊥)
+        at.answered k acts f → abandons f was m made now → IfErr made (λ e. ⊥)
     pub framed : (k : K) (acts : List Own) (b : B) (was : Recorded) (m : Moment) (made : Result (Poll (Option (Result (Frame (List ℕ)) (BodyError (List ℕ))))) NoMemory) (new : B) (now : Recorded) →
         NotBefore m.now acts → at.streaming k acts b → frames b was m made new now → IfOk made (λ a. Framed ends at table k acts m.now was a new now)
     pub body_left : (k : K) (acts : List Own) (b : B) (was : Recorded) (m : Moment) (made : Result Unit NoMemory) (now : Recorded) →
-        at.streaming k acts b → body_leaves b was m made now → IfOk made (λ u. Dropped at table k acts m.now was now)
+        at.streaming k acts b → body_abandons b was m made now → IfOk made (λ u. Dropped at table k acts m.now was now)
     pub body_refused : (k : K) (acts : List Own) (b : B) (was : Recorded) (m : Moment) (made : Result Unit NoMemory) (now : Recorded) →
-        at.streaming k acts b → body_leaves b was m made now → IfErr made (λ e. was.spare ≡ 0)
+        at.streaming k acts b → body_abandons b was m made now → IfErr made (λ e. was.spare ≡ 0)
     pub idles : Idles at table

@@ -7,7 +7,7 @@ use life_core::Got;
 use life_script::Step;
 use std::alloc::Global;
 
-/// How many of the steps are of each request. The one error is want of memory.
+/// How many of the steps are of each request.
 pub(crate) fn count_steps(alloc: Global, requests: u64, steps: &[Step]) -> Got<Vec<u64>>
     requires { (k : ℕ) (x : StepView) → slice_get steps.now k ≡ Some x → x.request < requests }
     ensures { IfOk result (λ counts. Counts requests steps.now counts.items) }

@@ -21,7 +21,7 @@ pub struct Exchange<F, B> {
     pub turns: Turns,
 }
 
-/// A request that was not called, with room for the turns of so many steps. The one error is want of memory.
+/// A request that was not called, with room for the turns of so many steps.
 pub fn begin_exchange<F, B>(alloc: Global, steps: u64) -> Got<Exchange<F, B>>
     ensures fresh { IfOk result (IsFresh steps) }
 {
@@ -74,7 +74,7 @@ fn act_at<S: Driven>(
     act_on::<S, Log>(stack, script, step.request, live, step.act, &mut cx)
 }
 
-/// Gives up what is live at a time.
+/// Abandons what is live at a time.
 fn finish_at<S: Driven>(
     live: Live<S::Future, S::Body>,
     at: u64,
@@ -110,8 +110,8 @@ fn make_room<F, B>(live: &Live<F, B>, log: &mut Log) -> Got<()>
     }
 }
 
-/// Gives up what is live of an exchange at a time; what that records is lost.
-pub fn leave<S: Driven>(exchange: Exchange<S::Future, S::Body>, at: u64, alloc: Global)
+/// Abandons what is live of an exchange at a time; what that records is lost.
+pub fn abandon_at<S: Driven>(exchange: Exchange<S::Future, S::Body>, at: u64, alloc: Global)
     requires { MayGoOn S.meaning exchange.live }
 {
     let Exchange {
@@ -122,7 +122,7 @@ pub fn leave<S: Driven>(exchange: Exchange<S::Future, S::Body>, at: u64, alloc: 
     let _ = finish_at::<S>(live, at, alloc, &mut log);
 }
 
-/// Runs a step of this request. Where it is refused for memory, what was live was given up; a Drop is not
+/// Runs a step of this request. Where it is refused for memory, what was live was abandoned; a Drop is not
 /// refused.
 pub fn take_turn<S: Driven>(
     stack: &mut S::Stack,

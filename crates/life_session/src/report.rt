@@ -155,8 +155,7 @@ fn put_total(alloc: Global, text: &mut TextBuilder, requests: u64, steps: u64, e
     text.text(total.as_str())
 }
 
-/// The text of a report: the lines of its steps, of its ends and of its totals. The one error is want of
-/// memory.
+/// The text of a report: the lines of its steps, of its ends and of its totals.
 pub fn report_text(alloc: Global, report: &Report) -> Got<Octets>
     ensures { IfOk result (λ octets. octets ≡ report_text report.now) }
 {

@@ -9,7 +9,7 @@ ghost use Rattle.life_session.specs.Table.{tables};
 
 use crate::acts::count_steps;
 use crate::exchange::Exchange;
-use crate::exchange::exchanges::{begin_all, leave_all, run_step, tell_all};
+use crate::exchange::exchanges::{abandon_all, begin_all, run_step, tell_all};
 use crate::report::Report;
 use crate::table::Driven;
 use life_core::{Got, NoMemory, Twin};
@@ -46,7 +46,7 @@ impl<D: Driven> Model for Session<D> {
         × (s.told.items ≡ []) × (length s.exchanges.items ≤ s.told.spare) };
 }
 
-/// Twins of scripts, to be shared. The one error is want of memory.
+/// Twins of scripts, to be shared.
 pub fn share(alloc: Global, scripts: &Scripts) -> Got<Rc<Scripts>>
     ensures { IfOk result (λ shared. shared.value.items ≡ scripts.now.items) }
 {
@@ -57,12 +57,12 @@ pub fn share(alloc: Global, scripts: &Scripts) -> Got<Rc<Scripts>>
     }
 }
 
-/// A session of a valid scenario. The one error is want of memory.
+/// A session of a valid scenario.
 fn begin_valid<D: Driven>(alloc: Global, limits: &D::Limits, scenario: &Scenario) -> Got<Session<D>>
     requires { IsValid scenario.now }
     ensures { IfOk result (IsBegun limits.now scenario.now) }
 {
-    D::tells_nothing();
+    D::idles();
     let requests = scenario.requests.len();
     let counts = count_steps(alloc, requests, scenario.steps.as_slice())?;
     let scripts = share(alloc, &scenario.requests)?;
@@ -118,7 +118,7 @@ impl<D: Driven> Session<D> {
         self.done == self.steps.len()
     }
 
-    /// Runs the next step. The one error is want of memory, and then all that was live was given up; a Drop is
+    /// Runs the next step. The one error is want of memory, and then all that was live was abandoned; a Drop is
     /// not refused and takes no memory.
     pub fn step(self) -> Got<Session<D>>
         requires { self.done < length self.scenario.steps }
@@ -150,13 +150,13 @@ impl<D: Driven> Session<D> {
                 alloc,
             }),
             Err(no_memory) => {
-                leave_all::<D>(exchanges, step.at, alloc);
+                abandon_all::<D>(exchanges, step.at, alloc);
                 Err(no_memory)
             }
         }
     }
 
-    /// The report of a session whose steps all were run. What is still live is given up at the end, in the
+    /// The report of a session whose steps all were run. What is still live is abandoned at the end, in the
     /// order of the requests' numbers. It takes no memory.
     pub fn finish(self) -> Report
         requires { self.done ≡ length self.scenario.steps }

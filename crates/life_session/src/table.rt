@@ -3,7 +3,7 @@ ghost use Rattle.std.specs.Prelude.{◌≡◌, ℕ, List, [], Bool, IfOk, IfErr,
 ghost use Rattle.life_core.specs.History.{Adds};
 ghost use Rattle.life_core.specs.Moment.{SameContext};
 ghost use Rattle.life_core.specs.Poll.{IfReady, OnPending};
-ghost use Rattle.life_script.specs.ScriptView.{ScriptView};
+ghost use Rattle.life_script.specs.Scenario.{ScriptView};
 ghost use Rattle.life_script.specs.Valid.{ScriptFits};
 ghost use Rattle.life_session.specs.Acts.{NotBefore, Own};
 ghost use Rattle.life_session.specs.Table.{CalledAt, Dropped, Framed, Idles, Meaning, Polled};
@@ -75,8 +75,8 @@ pub trait Driven {
         ensures may { meaning.future_may future.new }
         ensures context { SameContext L.place cx.old cx.new };
 
-    /// Gives up a future.
-    fn leave_future<L: Recorder>(future: Self::Future, cx: &mut Cx<'_, L>) -> Got<()>
+    /// Abandons a future.
+    fn abandon_future<L: Recorder>(future: Self::Future, cx: &mut Cx<'_, L>) -> Got<()>
         requires { meaning.future_may future }
         ensures waiting { (k : Key) (acts : List Own) → meaning.places.waiting k acts future → IfOk result (λ _. Dropped meaning.places meaning.table k acts cx.old.now (L.recorded cx.old.rec.now) (L.recorded cx.new.rec.now)) }
         ensures answered { (k : Key) (acts : List Own) → meaning.places.answered k acts future → IfOk result (λ _. Adds (L.recorded cx.old.rec.now) (L.recorded cx.new.rec.now) []) }
@@ -99,14 +99,14 @@ pub trait Driven {
     fn ends_at(body: &Self::Body) -> bool
         ensures { result ≡ meaning.ends body.now };
 
-    /// Gives up a body.
-    fn leave_body<L: Recorder>(body: Self::Body, cx: &mut Cx<'_, L>) -> Got<()>
+    /// Abandons a body.
+    fn abandon_body<L: Recorder>(body: Self::Body, cx: &mut Cx<'_, L>) -> Got<()>
         requires { meaning.body_may body }
         ensures left { (k : Key) (acts : List Own) → meaning.places.streaming k acts body → IfOk result (λ _. Dropped meaning.places meaning.table k acts cx.old.now (L.recorded cx.old.rec.now) (L.recorded cx.new.rec.now)) }
         ensures refused { (k : Key) (acts : List Own) → meaning.places.streaming k acts body → IfErr result (λ _. (L.recorded cx.old.rec.now).spare ≡ 0) }
         ensures context { SameContext L.place cx.old cx.new };
 
     /// Does nothing; says of which acts nothing is told.
-    fn tells_nothing()
+    fn idles()
         ensures { Idles meaning.places meaning.table };
 }

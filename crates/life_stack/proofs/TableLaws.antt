@@ -3,4 +3,4 @@ pub mod Answering
 pub mod Bounds
 pub mod Drops
 pub mod Failing
-pub mod Heads
+pub mod FirstAnswers

@@ -1,6 +1,6 @@
-pub mod Due
 pub mod Input
 pub mod Lines
+pub mod Output
 pub mod Run
 pub mod Status
 pub mod Words

@@ -1,4 +1,4 @@
 pub mod Caught
 pub mod Handing
+pub mod History
 pub mod Script
-pub mod Stands

@@ -1,6 +1,6 @@
-//! The program around a drive: what is read, what is due for it, and what is written.
-mod due;
+//! The program around a drive: what is read, its output, and what of that is written.
 mod input;
+mod output;
 pub mod running;
 pub mod status;
 mod words;

@@ -13,7 +13,7 @@ use crate::service::ext::Ext;
 use crate::service::future::ScriptFuture;
 use life_core::{
     Cx, Fault, Future, Got, Limited, List, NoMemory, PanicText, Poll, Recorder, Request, Response,
-    Service, Text, Twin, give_up_request,
+    Service, Text, Twin, abandon_request,
 };
 use life_head::request_id::Number;
 use life_script::{CallItem, PollItems, Script, Scripts};
@@ -64,7 +64,7 @@ impl ScriptService {
     }
 }
 
-/// The poll items of a script. The one error is want of memory.
+/// The poll items of a script.
 fn polls_of(alloc: Global, script: Option<&Script>) -> Got<PollItems>
     ensures { IfOk result (λ polls. polls.items ≡ polls_for (option_copied script.entry)) }
 {
@@ -74,7 +74,7 @@ fn polls_of(alloc: Global, script: Option<&Script>) -> Got<PollItems>
     }
 }
 
-/// The panic of a script's call, if it has one. The one error is want of memory.
+/// The panic of a script's call, if it has one.
 fn panic_of(alloc: Global, script: Option<&Script>) -> Got<Option<PanicText>>
     ensures { IfOk result (λ panic. panic ≡ panic_for (option_copied script.entry)) }
 {
@@ -83,10 +83,7 @@ fn panic_of(alloc: Global, script: Option<&Script>) -> Got<Option<PanicText>>
     };
     match &script.call {
         CallItem::Serve => Ok(None),
-        CallItem::Panic(text) => match text.twin(alloc) {
-            Ok(text) => Ok(Some(text)),
-            Err(no_memory) => Err(no_memory),
-        },
+        CallItem::Panic(text) => Ok(Some(text.twin(alloc)?)),
     }
 }
 
@@ -114,10 +111,10 @@ impl<L: Recorder> Service<Request<Limited<ScriptBody>, Ext>, L> for ScriptServic
     ) -> Got<ScriptFuture> {
         let script = self.find(req.ext().number);
         let Ok(polls) = polls_of(cx.alloc, script) else {
-            return Err(give_up_request(req, cx));
+            return Err(abandon_request(req, cx));
         };
         let Ok(panic) = panic_of(cx.alloc, script) else {
-            return Err(give_up_request(req, cx));
+            return Err(abandon_request(req, cx));
         };
         let (head, body) = req.into_parts();
         drop(head);

@@ -3,7 +3,7 @@ ghost use Rattle.std.specs.Prelude.{◌≡◌, ◌<◌, ℕ, List, [], Some, len
 ghost use Rattle.life_core.specs.History.{Adds};
 ghost use Rattle.life_core.specs.Moment.{SameContext};
 ghost use Rattle.life_core.specs.Poll.{IfReady, OnPending};
-ghost use Rattle.life_script.specs.ScriptView.{ScriptView};
+ghost use Rattle.life_script.specs.Scenario.{ScriptView};
 ghost use Rattle.life_stack.specs.Stack.Driven.{BodyMay, FutureLive, FutureMay, StackMay, StackStands, drive_ends};
 ghost use Rattle.life_session.specs.Acts.{NotBefore, Own};
 ghost use Rattle.life_session.specs.Table.{CalledAt, Dropped, Framed, Polled};
@@ -64,7 +64,7 @@ pub type DriveBody = OnEarlyDropBody<
     NoteDropped,
 >;
 
-/// The stack with these limits over a service of these scripts. The one error is want of memory.
+/// The stack with these limits over a service of these scripts.
 pub(crate) fn stack_over(alloc: Global, limits: &Limits, scripts: Rc<Scripts>) -> Got<DriveStack>
     ensures stands { (script : ScriptView) (i : ℕ) → slice_get scripts.value.items i ≡ Some script → ScriptFits script → IfOk result (StackStands limits.now (numbered i script)) }
     ensures may { IfOk result StackMay }
@@ -85,7 +85,7 @@ pub(crate) fn stack_over(alloc: Global, limits: &Limits, scripts: Rc<Scripts>) -
 }
 
 /// The stack with these limits over a service of a valid scenario's scripts, each of which it serves by its
-/// number. The one error is want of memory.
+/// number.
 pub fn drive_stack(alloc: Global, limits: &Limits, scenario: &Scenario) -> Got<DriveStack>
     requires { IsValid scenario.now }
     ensures stands { (script : ScriptView) (i : ℕ) → slice_get scenario.now.requests i ≡ Some script → IfOk result (StackStands limits.now (numbered i script)) }
@@ -99,7 +99,7 @@ pub fn drive_stack(alloc: Global, limits: &Limits, scenario: &Scenario) -> Got<D
 }
 
 /// The request of a script and its number: GET `/` in HTTP/1.1, with the script's headers in order and its
-/// body. The one error is want of memory.
+/// body.
 pub fn request_of(alloc: Global, script: &Script, number: u64) -> Got<Request<ScriptBody, Ext>>
     ensures { IfOk result (IsRequestOf script.now number) }
 {
@@ -115,7 +115,7 @@ pub fn request_of(alloc: Global, script: &Script, number: u64) -> Got<Request<Sc
 }
 
 /// The request of the script of a number, which a valid scenario has: GET `/` in HTTP/1.1, with the script's
-/// headers in order and its body. The one error is want of memory.
+/// headers in order and its body.
 pub fn script_request(alloc: Global, scenario: &Scenario, i: u64) -> Got<Request<ScriptBody, Ext>>
     requires valid { IsValid scenario.now }
     requires within { i < length scenario.now.requests }
@@ -146,7 +146,7 @@ pub fn call_stack<L: Recorder>(
 }
 
 /// Polls a future that waits: the answer and the events are the table's, and what is live afterwards stands
-/// at the acts with this poll. The one error is want of memory.
+/// at the acts with this poll.
 pub fn poll_future<L: Recorder>(
     future: &mut DriveFuture<L>,
     cx: &mut Cx<'_, L>,
@@ -165,7 +165,7 @@ pub fn poll_future<L: Recorder>(
     future.poll(cx)
 }
 
-/// Gives up a future: its early drop is recorded where it waits, as the table tells, and nothing where it
+/// Abandons a future: its early drop is recorded where it waits, as the table tells, and nothing where it
 /// answered. The one error is want of memory, which comes only where it waits and the recorder had no room.
 pub fn abandon_future<L: Recorder>(future: DriveFuture<L>, cx: &mut Cx<'_, L>) -> Got<()>
     requires { FutureMay future }
@@ -184,7 +184,7 @@ pub fn abandon_future<L: Recorder>(future: DriveFuture<L>, cx: &mut Cx<'_, L>) -
 }
 
 /// Polls a body, at a time that is not before its acts: the answer and the events are the table's, and it
-/// stands at the acts with this poll. The one error is want of memory.
+/// stands at the acts with this poll.
 pub fn poll_body<L: Recorder>(
     body: &mut DriveBody,
     cx: &mut Cx<'_, L>,
@@ -198,7 +198,7 @@ pub fn poll_body<L: Recorder>(
     body.poll_frame(cx)
 }
 
-/// Gives up a body: its early drop is recorded as the table tells, where no ending answer came. The one error
+/// Abandons a body: its early drop is recorded as the table tells, where no ending answer came. The one error
 /// is want of memory, which comes only where the recorder had no room.
 pub fn abandon_body<L: Recorder>(body: DriveBody, cx: &mut Cx<'_, L>) -> Got<()>
     requires { BodyMay body }

@@ -31,7 +31,7 @@ fn request_of(rt: &(impl Abort + AllocGlobal), scenario: &Scenario) -> Request<S
     script_request(rt.alloc(), scenario, 0).expect(rt, "memory")
 }
 
-/// The response of a request at its first poll, after which its future is given up.
+/// The response of a request at its first poll, after which its future is abandoned.
 fn first_answer(
     rt: &impl Abort,
     stack: &mut DriveStack,
@@ -51,7 +51,7 @@ fn first_answer(
     }
 }
 
-/// Asserts that a body is at its end at its first poll; then it is given up.
+/// Asserts that a body is at its end at its first poll; then it is abandoned.
 fn ends(rt: &impl Abort, mut body: DriveBody, cx: &mut Cx<'_, Log>)
     requires { BodyMay body }
 {

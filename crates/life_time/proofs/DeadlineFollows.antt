@@ -1,8 +1,8 @@
 -- `ResponseBodyDeadline` passes its future's answers on; its body answers by its timer first.
 use Rattle.std.proofs.Common.{◌≡◌, ℕ, List, [], ◌∷◌, Bool, true, false, Option, Some, None, Ok, Err, Result, refl, ap, ◌∙◌, subst}
 use Rattle.http_body.specs.declared.frame.Frame.{Frame}
-use Rattle.life_core.specs.Due.{due}
-use Rattle.life_core.specs.Meaning.{Polls, Leaves, Frames, Calls, WrapsFaults}
+use Rattle.life_core.specs.Timer.{due}
+use Rattle.life_core.specs.Calls.{Polls, Abandons, Frames, Calls, WrapsFaults}
 use Rattle.life_core.specs.Moment.{Moment}
 use Rattle.life_core.specs.Recorded.{Recorded}
 use Rattle.life_core.specs.declared.event.Event.{Event}
@@ -18,17 +18,17 @@ use Rattle.life_core.proofs.Growth.{adds_none}
 use Rattle.life_core.proofs.Due.{undue_before}
 use Rattle.life_time.specs.declared.timeout.deadline_body.DeadlineBody.{DeadlineBody}
 use Rattle.life_time.specs.declared.timeout.deadline_service.ResponseBodyDeadlineFuture.{ResponseBodyDeadlineFuture}
-use Rattle.life_time.specs.DeadlineBody.{DeadlineFrames, ElapsedFrames, InTimeFrames, DeadlineBodyLeaves, deadline_ends}
-use Rattle.life_time.specs.DeadlineService.{DeadlineCalls, DeadlinePolls, DeadlineLeaves}
-use Rattle.life_time.specs.Stands.{DeadlineStands, DeadlineServes, deadline_history, DeadlineBodyStands, deadline_body_history, undue, wrapped}
+use Rattle.life_time.specs.DeadlineBody.{DeadlineFrames, ElapsedFrames, InTimeFrames, DeadlineBodyAbandons, deadline_ends}
+use Rattle.life_time.specs.DeadlineService.{DeadlineCalls, DeadlinePolls, DeadlineAbandons}
+use Rattle.life_time.specs.History.{DeadlineStands, DeadlineServes, deadline_history, DeadlineBodyStands, deadline_body_history, undue, wrapped}
 
 pub undue_all : (start len q : ℕ) (past : List ℕ) → Latest q past → due start len q ≡ false → undue start len past ≡ past
 undue_all start len q [] l e = refl
 undue_all start len q (p ∷ past) l e = rw (undue_before start len p q l.0 e) (ap (λ ps. p ∷ ps) (undue_all start len q past l.1 e))
 
-module _ {H P F B X E : Type 0} (polls : Polls F (Result (Response B X) E)) (leaves : Leaves F) (Heads : H → ResponseHead X → Type 0)
+module _ {H P F B X E : Type 0} (polls : Polls F (Result (Response B X) E)) (abandons : Abandons F) (Heads : H → ResponseHead X → Type 0)
     (Stands : F → Where → Type 0) (BodyStands : P → B → List ℕ → Type 0) (h : FutureHistory H P E) (len : ℕ)
-    (inner : FutureFollows polls leaves Heads Stands BodyStands h) where
+    (inner : FutureFollows polls abandons Heads Stands BodyStands h) where
   abbrev BS : ℕ × P → DeadlineBody B → List ℕ → Type 0
   BS = DeadlineBodyStands len BodyStands
 
@@ -76,16 +76,16 @@ module _ {H P F B X E : Type 0} (polls : Polls F (Result (Response B X) E)) (lea
   same_left (Waiting past) t = refl
   same_left Answered t = refl
 
-  pub deadline_follows : FutureFollows (DeadlinePolls polls) (DeadlineLeaves leaves) Heads (DeadlineStands len Stands) BS (deadline_history h)
+  pub deadline_follows : FutureFollows (DeadlinePolls polls) (DeadlineAbandons abandons) Heads (DeadlineStands len Stands) BS (deadline_history h)
   deadline_follows = record {
     poll = step;
     left = λ w f was m u now s d. rw (same_left w m.now) (inner.left w f.inner was m u now s.inner d);
     refused = λ w f was m e now s d. rw (same_left w m.now) (inner.refused w f.inner was m e now s.inner d);
   }
 
-module _ {P B D E : Type 0} (frames : Frames B D E) (leaves : Leaves B) (ends : B → Bool)
+module _ {P B D E : Type 0} (frames : Frames B D E) (abandons : Abandons B) (ends : B → Bool)
     (Stands : P → B → List ℕ → Type 0) (h : P → BodyHistory D E) (len : ℕ)
-    (inner : BodyFollows frames leaves ends Stands h) where
+    (inner : BodyFollows frames abandons ends Stands h) where
   abbrev Here : ℕ × P → DeadlineBody B → List ℕ → Type 0
   Here = DeadlineBodyStands len Stands
 
@@ -121,7 +121,7 @@ module _ {P B D E : Type 0} (frames : Frames B D E) (leaves : Leaves B) (ends : 
   by_test true p past b was m a new now l e s d = on_due p past b was m a new now e s (d.on_due (ap (λ (x : Timer). due x.start x.length m.now) s.timer_is ∙ e))
   by_test false p past b was m a new now l e s d = in_time p past b was m a new now l e s (d.in_time (ap (λ (x : Timer). due x.start x.length m.now) s.timer_is ∙ e))
 
-  pub deadline_body_follows : BodyFollows (DeadlineFrames frames) (DeadlineBodyLeaves leaves) (deadline_ends ends) Here (deadline_body_history len h)
+  pub deadline_body_follows : BodyFollows (DeadlineFrames frames) (DeadlineBodyAbandons abandons) (deadline_ends ends) Here (deadline_body_history len h)
   deadline_body_follows = record {
     tells = λ p b past s. inner.tells p.1 b.body (undue p.0 len past) s.inner;
     frame = λ p past b was m a new now l s d. by_test (due p.0 len m.now) p past b was m a new now l refl s d;

@@ -1,8 +1,8 @@
 -- `Timeout` answers by its timer first, and else as its inner future.
 use Rattle.std.proofs.Common.{◌≡◌, ℕ, ◌<◌, List, [], length, Bool, true, false, Option, Some, None, Ok, Err, Result, refl, ap, ap₂, ◌∙◌, subst}
 use Rattle.std.specs.Prelude.{if◌then◌else◌}
-use Rattle.life_core.specs.Due.{due}
-use Rattle.life_core.specs.Meaning.{Polls, Leaves, Calls, LeavesIfAny, PollsWithin}
+use Rattle.life_core.specs.Timer.{due}
+use Rattle.life_core.specs.Calls.{Polls, Abandons, Calls, AbandonsIfAny, PollsWithin}
 use Rattle.life_core.specs.Message.{IsBare}
 use Rattle.life_core.specs.Moment.{Moment}
 use Rattle.life_core.specs.Recorded.{Recorded}
@@ -16,14 +16,14 @@ use Rattle.life_core.specs.declared.clock.Timer.{Timer}
 use Rattle.life_core.specs.History.{Adds, FutureHistory, FutureFollows, Gives, Where, Waiting, Answered, Matches, where_after, left_at, ServiceFollows}
 use Rattle.life_core.proofs.Growth.{adds_none}
 use Rattle.life_time.specs.declared.timeout.service.ResponseFuture.{ResponseFuture}
-use Rattle.life_time.specs.Timeout.{TimeoutCalls, TimeoutPolls, TimeoutLeaves, DuePolls, InnerPolls}
-use Rattle.life_time.specs.Stands.{Held, TimeoutStands, TimeoutServes, timeout_history}
+use Rattle.life_time.specs.Timeout.{TimeoutCalls, TimeoutPolls, TimeoutAbandons, DuePolls, InnerPolls}
+use Rattle.life_time.specs.History.{Held, TimeoutStands, TimeoutServes, timeout_history}
 
-module _ {H P F B X E : Type 0} (polls : Polls F (Result (Response B X) E)) (leaves : Leaves F) (is_body : B → Type 0) (is_ext : X → Type 0) (Heads : H → ResponseHead X → Type 0)
+module _ {H P F B X E : Type 0} (polls : Polls F (Result (Response B X) E)) (abandons : Abandons F) (is_body : B → Type 0) (is_ext : X → Type 0) (Heads : H → ResponseHead X → Type 0)
     (timer : Timer) (status : ℕ) (late : H) (heads : (head : ResponseHead X) → IsBare is_ext status head → Heads late head)
     (Stands : F → Where → Type 0) (BodyStands : P → B → List ℕ → Type 0) (h : FutureHistory H P E)
     (p : P) (default : (b : B) → is_body b → BodyStands p b [])
-    (inner : FutureFollows polls leaves Heads Stands BodyStands h) where
+    (inner : FutureFollows polls abandons Heads Stands BodyStands h) where
   Here : ResponseFuture F → Where → Type 0
   Here f w = TimeoutStands timer status Stands f w
 
@@ -34,12 +34,12 @@ module _ {H P F B X E : Type 0} (polls : Polls F (Result (Response B X) E)) (lea
       × Adds was now (if b then h.left past m.now else h.events past m.now)
       × TimeoutStands timer status Stands new (where_after past m.now a)
 
-  left_any : (past : List ℕ) (f : Option F) (was : Recorded) (m : Moment) (u : Unit) (now : Recorded) → Held Stands f (Waiting past) → LeavesIfAny leaves f was m (Ok u) now → Adds was now (h.left past m.now)
+  left_any : (past : List ℕ) (f : Option F) (was : Recorded) (m : Moment) (u : Unit) (now : Recorded) → Held Stands f (Waiting past) → AbandonsIfAny abandons f was m (Ok u) now → Adds was now (h.left past m.now)
   left_any past None was m u now s g = elim s [ ]
   left_any past (Some f) was m u now s g = inner.left (Waiting past) f was m u now s g
 
   on_due : (past : List ℕ) (f : ResponseFuture F) (was : Recorded) (m : Moment) (a : Poll (Result (Response B X) E)) (new : ResponseFuture F) (now : Recorded) →
-      TimeoutStands timer status Stands f (Waiting past) → DuePolls leaves is_body is_ext f was m (Ok a) new now → Steps true past was m a new now
+      TimeoutStands timer status Stands f (Waiting past) → DuePolls abandons is_body is_ext f was m (Ok a) new now → Steps true past was m a new now
   on_due past f was m (Ready (Ok r)) new now s d = (
     (heads r.head (subst (λ x. IsBare is_ext x r.head) s.status_is d.reply.0), default r.body d.reply.1),
     left_any past f.inner was m tt now s.inner d.left,
@@ -64,16 +64,16 @@ module _ {H P F B X E : Type 0} (polls : Polls F (Result (Response B X) E)) (lea
   )
 
   by_test : (b : Bool) (past : List ℕ) (f : ResponseFuture F) (was : Recorded) (m : Moment) (a : Poll (Result (Response B X) E)) (new : ResponseFuture F) (now : Recorded) →
-      due f.timer.start f.timer.length m.now ≡ b → TimeoutStands timer status Stands f (Waiting past) → TimeoutPolls polls leaves is_body is_ext f was m (Ok a) new now → Steps b past was m a new now
+      due f.timer.start f.timer.length m.now ≡ b → TimeoutStands timer status Stands f (Waiting past) → TimeoutPolls polls abandons is_body is_ext f was m (Ok a) new now → Steps b past was m a new now
   by_test true past f was m a new now e s d = on_due past f was m a new now s (d.on_due e)
   by_test false past f was m a new now e s d = in_time past f was m a new now s (d.in_time e)
 
-  left_held : (w : Where) (f : Option F) (was : Recorded) (m : Moment) (u : Unit) (now : Recorded) → Held Stands f w → LeavesIfAny leaves f was m (Ok u) now → Adds was now (left_at h w m.now)
+  left_held : (w : Where) (f : Option F) (was : Recorded) (m : Moment) (u : Unit) (now : Recorded) → Held Stands f w → AbandonsIfAny abandons f was m (Ok u) now → Adds was now (left_at h w m.now)
   left_held (Waiting past) None was m u now s g = elim s [ ]
   left_held Answered None was m u now s g = adds_none was now g.1
   left_held w (Some f) was m u now s g = inner.left w f was m u now s g
 
-  refused_held : (w : Where) (f : Option F) (was : Recorded) (m : Moment) (e : NoMemory) (now : Recorded) → Held Stands f w → LeavesIfAny leaves f was m (Err e) now → was.spare < length (left_at h w m.now)
+  refused_held : (w : Where) (f : Option F) (was : Recorded) (m : Moment) (e : NoMemory) (now : Recorded) → Held Stands f w → AbandonsIfAny abandons f was m (Err e) now → was.spare < length (left_at h w m.now)
   refused_held w None was m e now s g = absurd (cc g.0)
   refused_held w (Some f) was m e now s g = inner.refused w f was m e now s g
 
@@ -81,7 +81,7 @@ module _ {H P F B X E : Type 0} (polls : Polls F (Result (Response B X) E)) (lea
   same_left (Waiting past) t = refl
   same_left Answered t = refl
 
-  pub timeout_follows : FutureFollows (TimeoutPolls polls leaves is_body is_ext) (TimeoutLeaves leaves) Heads (TimeoutStands timer status Stands) BodyStands (timeout_history timer late p h)
+  pub timeout_follows : FutureFollows (TimeoutPolls polls abandons is_body is_ext) (TimeoutAbandons abandons) Heads (TimeoutStands timer status Stands) BodyStands (timeout_history timer late p h)
   timeout_follows = record {
     poll = λ past f was m a new now s d.
         let r = by_test (due timer.start timer.length m.now) past f was m a new now (ap (λ (x : Timer). due x.start x.length m.now) s.timer_is) s d in

@@ -1,7 +1,7 @@
 -- What `DeadlineBody` does: its timer first, then the inner body.
 use Rattle.std.specs.Prelude.{◌≡◌, ℕ, Bool, true, false, Option, Some, Ok, Err}
-use Rattle.life_core.specs.Due.{due}
-use Rattle.life_core.specs.Meaning.{Frames, Answer, Leaves, WrapsFaults}
+use Rattle.life_core.specs.Timer.{due}
+use Rattle.life_core.specs.Calls.{Frames, Answer, Abandons, WrapsFaults}
 use Rattle.life_core.specs.Moment.{Moment}
 use Rattle.life_core.specs.Recorded.{Recorded}
 use Rattle.life_core.specs.declared.poll.Poll.TheVariants.{Ready}
@@ -16,8 +16,8 @@ IsUnderDeadline timeout body now made = made ≡ record { body = body; timer = r
 abbrev pub DeadlineBodyMay : {B : Type 0} → (B → Type 0) → DeadlineBody B → Type 0
 DeadlineBodyMay may b = may b.body
 
-abbrev pub DeadlineBodyLeaves : {B : Type 0} → Leaves B → Leaves (DeadlineBody B)
-DeadlineBodyLeaves leaves b = leaves b.body
+abbrev pub DeadlineBodyAbandons : {B : Type 0} → Abandons B → Abandons (DeadlineBody B)
+DeadlineBodyAbandons abandons b = abandons b.body
 
 abbrev pub deadline_ends : {B : Type 0} → (B → Bool) → DeadlineBody B → Bool
 deadline_ends ends b = ends b.body

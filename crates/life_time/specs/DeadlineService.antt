@@ -1,10 +1,9 @@
 -- What `ResponseBodyDeadline` does: the inner answers, with a timer round each body.
 use Rattle.std.specs.Prelude.{◌≡◌, ℕ, Result, Ok, Err, IfOk}
-use Rattle.life_core.specs.Meaning.{Polls, Leaves, Readies, Calls, Reply, under, OnResponse}
+use Rattle.life_core.specs.Calls.{Forwards, Polls, Abandons, Readies, Calls, Reply, under, OnResponse}
 use Rattle.life_core.specs.Moment.{Moment}
 use Rattle.life_core.specs.Recorded.{Recorded}
 use Rattle.life_core.specs.declared.message.Response.{Response}
-use Rattle.life_core.specs.declared.poll.Poll.{Poll}
 use Rattle.life_core.specs.declared.recorder.NoMemory.{NoMemory}
 use Rattle.life_time.specs.declared.timeout.deadline_body.DeadlineBody.{DeadlineBody}
 use Rattle.life_time.specs.declared.timeout.deadline_service.ResponseBodyDeadline.{ResponseBodyDeadline}
@@ -22,13 +21,11 @@ DeadlineMay may s = may s.inner
 abbrev pub DeadlineFutureMay : {F : Type 0} → (F → Type 0) → ResponseBodyDeadlineFuture F → Type 0
 DeadlineFutureMay may f = may f.inner
 
-abbrev pub DeadlineLeaves : {F : Type 0} → Leaves F → Leaves (ResponseBodyDeadlineFuture F)
-DeadlineLeaves leaves f = leaves f.inner
+abbrev pub DeadlineAbandons : {F : Type 0} → Abandons F → Abandons (ResponseBodyDeadlineFuture F)
+DeadlineAbandons abandons f = abandons f.inner
 
-pub record DeadlineReadies {S E : Type 0} (readies : Readies S E) (old : ResponseBodyDeadline S) (was : Recorded) (m : Moment)
-    (answer : Poll (Result Unit E)) (new : ResponseBodyDeadline S) (now : Recorded) : Type 0 where
-  pub inner : readies old.inner was m answer new.inner now
-  pub same : new ≡ record old { inner = new.inner }
+abbrev pub DeadlineReadies : {S E : Type 0} → Readies S E → Readies (ResponseBodyDeadline S) E
+DeadlineReadies = Forwards deadline_inner (λ s inner. record s { inner = inner })
 
 -- what the inner call gave
 abbrev pub given : {F : Type 0} → Result (ResponseBodyDeadlineFuture F) NoMemory → Result F NoMemory

@@ -1,5 +1,5 @@
 pub mod DeadlineBody
 pub mod DeadlineService
+pub mod History
 pub mod Lending
-pub mod Stands
 pub mod Timeout

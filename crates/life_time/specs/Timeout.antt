@@ -1,7 +1,7 @@
 -- What `Timeout` does: its timer first, then the inner future.
 use Rattle.std.specs.Prelude.{◌≡◌, ℕ, true, false, Some, None, Result, Ok, Err, IfOk, IfSome, IsSomeAnd}
-use Rattle.life_core.specs.Due.{due}
-use Rattle.life_core.specs.Meaning.{Polls, Leaves, Readies, Calls, spent, LeavesIfAny, PollsWithin}
+use Rattle.life_core.specs.Timer.{due}
+use Rattle.life_core.specs.Calls.{Forwards, Polls, Abandons, Readies, Calls, spent, AbandonsIfAny, PollsWithin}
 use Rattle.life_core.specs.Message.{IsBare}
 use Rattle.life_core.specs.Moment.{Moment}
 use Rattle.life_core.specs.Recorded.{Recorded}
@@ -27,11 +27,8 @@ TimeoutFutureMay may f = IfSome f.inner may
 abbrev pub TimeoutFutureLive : {F : Type 0} → (F → Type 0) → ResponseFuture F → Type 0
 TimeoutFutureLive live f = IsSomeAnd f.inner live
 
--- the inner answer of readiness; the layer's own parts stay
-pub record TimeoutReadies {S E : Type 0} (readies : Readies S E) (old : Timeout S) (was : Recorded) (m : Moment)
-    (answer : Poll (Result Unit E)) (new : Timeout S) (now : Recorded) : Type 0 where
-  pub inner : readies old.inner was m answer new.inner now
-  pub same : new ≡ record old { inner = new.inner }
+abbrev pub TimeoutReadies : {S E : Type 0} → Readies S E → Readies (Timeout S) E
+TimeoutReadies = Forwards timeout_inner (λ s inner. record s { inner = inner })
 
 -- the future holds an inner one, a timer that started now, and the layer's parts
 pub record IsStarted {S F : Type 0} (s : Timeout S) (m : Moment) (inner : F) (f : ResponseFuture F) : Type 0 where
@@ -50,8 +47,8 @@ pub record TimeoutCalls {S R F : Type 0} (calls : Calls S R F) (old : Timeout S)
   pub inner : CallGives calls old req was m answer new.inner now
   pub same : new ≡ record old { inner = new.inner }
 
-abbrev pub TimeoutLeaves : {F : Type 0} → Leaves F → Leaves (ResponseFuture F)
-TimeoutLeaves leaves old was m answer now = LeavesIfAny leaves old.inner was m answer now
+abbrev pub TimeoutAbandons : {F : Type 0} → Abandons F → Abandons (ResponseFuture F)
+TimeoutAbandons abandons old was m answer now = AbandonsIfAny abandons old.inner was m answer now
 
 -- the status with no headers and a default body
 abbrev pub IsTimedOut : {B X E : Type 0} → (B → Type 0) → (X → Type 0) → ℕ → Poll (Result (Response B X) E) → Type 0
@@ -59,11 +56,11 @@ IsTimedOut is_body is_ext status (Ready (Ok r)) = IsBare is_ext status r.head ×
 IsTimedOut is_body is_ext status (Ready (Err e)) = ⊥
 IsTimedOut is_body is_ext status Pending = ⊥
 
--- the inner future is given up and not polled
-pub record DuePolls {F B X E : Type 0} (leaves : Leaves F) (is_body : B → Type 0) (is_ext : X → Type 0)
+-- the inner future is abandoned and not polled
+pub record DuePolls {F B X E : Type 0} (abandons : Abandons F) (is_body : B → Type 0) (is_ext : X → Type 0)
     (old : ResponseFuture F) (was : Recorded) (m : Moment) (answer : Result (Poll (Result (Response B X) E)) NoMemory)
     (new : ResponseFuture F) (now : Recorded) : Type 0 where
-  pub left : LeavesIfAny leaves old.inner was m (spent answer) now
+  pub left : AbandonsIfAny abandons old.inner was m (spent answer) now
   pub reply : IfOk answer (IsTimedOut is_body is_ext old.status_code)
   pub after : new ≡ record old { inner = None }
 
@@ -73,8 +70,8 @@ pub record InnerPolls {F A : Type 0} (polls : Polls F A) (old : ResponseFuture F
   pub inner : PollsWithin polls old.inner was m answer new.inner now
   pub same : new ≡ record old { inner = new.inner }
 
-pub record TimeoutPolls {F B X E : Type 0} (polls : Polls F (Result (Response B X) E)) (leaves : Leaves F)
+pub record TimeoutPolls {F B X E : Type 0} (polls : Polls F (Result (Response B X) E)) (abandons : Abandons F)
     (is_body : B → Type 0) (is_ext : X → Type 0) (old : ResponseFuture F) (was : Recorded) (m : Moment)
     (answer : Result (Poll (Result (Response B X) E)) NoMemory) (new : ResponseFuture F) (now : Recorded) : Type 0 where
-  pub on_due : due old.timer.start old.timer.length m.now ≡ true → DuePolls leaves is_body is_ext old was m answer new now
+  pub on_due : due old.timer.start old.timer.length m.now ≡ true → DuePolls abandons is_body is_ext old was m answer new now
   pub in_time : due old.timer.start old.timer.length m.now ≡ false → InnerPolls polls old was m answer new now

@@ -101,16 +101,12 @@ impl ClassifyResponse for DriveClassifier {
     fn classify_error<E: Display>(self, alloc: Global, error: &E) -> Got<DriveFailureClass> {
         match self {
             DriveClassifier::Http => {
-                match ServerErrorsAsFailures::new().classify_error(alloc, error) {
-                    Ok(class) => Ok(DriveFailureClass::Http(class)),
-                    Err(no_memory) => Err(no_memory),
-                }
+                let class = ServerErrorsAsFailures::new().classify_error(alloc, error)?;
+                Ok(DriveFailureClass::Http(class))
             }
             DriveClassifier::Grpc => {
-                match GrpcErrorsAsFailures::new().classify_error(alloc, error) {
-                    Ok(class) => Ok(DriveFailureClass::Grpc(class)),
-                    Err(no_memory) => Err(no_memory),
-                }
+                let class = GrpcErrorsAsFailures::new().classify_error(alloc, error)?;
+                Ok(DriveFailureClass::Grpc(class))
             }
         }
     }
@@ -153,10 +149,8 @@ impl ClassifyEos for DriveClassifyEos {
     }
 
     fn classify_error<E: Display>(self, alloc: Global, error: &E) -> Got<DriveFailureClass> {
-        match self.grpc.classify_error(alloc, error) {
-            Ok(class) => Ok(DriveFailureClass::Grpc(class)),
-            Err(no_memory) => Err(no_memory),
-        }
+        let class = self.grpc.classify_error(alloc, error)?;
+        Ok(DriveFailureClass::Grpc(class))
     }
 }
 

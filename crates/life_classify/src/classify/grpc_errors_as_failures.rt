@@ -140,10 +140,8 @@ impl ClassifyResponse for GrpcErrorsAsFailures {
     }
 
     fn classify_error<E: Display>(self, alloc: Global, error: &E) -> Got<GrpcFailureClass> {
-        match text_of(alloc, error) {
-            Ok(text) => Ok(GrpcFailureClass::Error(text)),
-            Err(no_memory) => Err(no_memory),
-        }
+        let text = text_of(alloc, error)?;
+        Ok(GrpcFailureClass::Error(text))
     }
 }
 
@@ -173,7 +171,7 @@ impl Twin for GrpcEosErrorsAsFailures {
     }
 }
 
-/// What the trailers tell. The one error is want of memory.
+/// What the trailers tell.
 fn classify_trailers(
     alloc: Global,
     trailers: &HeaderMap,
@@ -216,10 +214,8 @@ impl ClassifyEos for GrpcEosErrorsAsFailures {
     }
 
     fn classify_error<E: Display>(self, alloc: Global, error: &E) -> Got<GrpcFailureClass> {
-        match text_of(alloc, error) {
-            Ok(text) => Ok(GrpcFailureClass::Error(text)),
-            Err(no_memory) => Err(no_memory),
-        }
+        let text = text_of(alloc, error)?;
+        Ok(GrpcFailureClass::Error(text))
     }
 }
 

@@ -54,10 +54,8 @@ where
 
     fn classify_error<E: Display>(self, alloc: Global, error: &E) -> Got<NewClass> {
         let MapFailureClass { inner, f } = self;
-        match inner.classify_error(alloc, error) {
-            Ok(class) => Ok(f(class)),
-            Err(no_memory) => Err(no_memory),
-        }
+        let class = inner.classify_error(alloc, error)?;
+        Ok(f(class))
     }
 }
 
@@ -97,10 +95,8 @@ where
 
     fn classify_error<E: Display>(self, alloc: Global, error: &E) -> Got<NewClass> {
         let MapFailureClass { inner, f } = self;
-        match inner.classify_error(alloc, error) {
-            Ok(class) => Ok(f(class)),
-            Err(no_memory) => Err(no_memory),
-        }
+        let class = inner.classify_error(alloc, error)?;
+        Ok(f(class))
     }
 }
 

@@ -77,10 +77,8 @@ impl ClassifyResponse for ServerErrorsAsFailures {
     }
 
     fn classify_error<E: Display>(self, alloc: Global, error: &E) -> Got<ServerErrorsFailureClass> {
-        match text_of(alloc, error) {
-            Ok(text) => Ok(ServerErrorsFailureClass::Error(text)),
-            Err(no_memory) => Err(no_memory),
-        }
+        let text = text_of(alloc, error)?;
+        Ok(ServerErrorsFailureClass::Error(text))
     }
 }
 

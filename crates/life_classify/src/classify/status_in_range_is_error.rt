@@ -94,10 +94,8 @@ impl ClassifyResponse for StatusInRangeAsFailures {
         alloc: Global,
         error: &E,
     ) -> Got<StatusInRangeFailureClass> {
-        match text_of(alloc, error) {
-            Ok(text) => Ok(StatusInRangeFailureClass::Error(text)),
-            Err(no_memory) => Err(no_memory),
-        }
+        let text = text_of(alloc, error)?;
+        Ok(StatusInRangeFailureClass::Error(text))
     }
 }
 

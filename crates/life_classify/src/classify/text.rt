@@ -5,7 +5,7 @@ use life_core::{Got, NoMemory, Text};
 use std::alloc::Global;
 use std::fmt::Display;
 
-/// The text that an error shows. The one error is want of memory.
+/// The text that an error shows.
 pub(crate) fn text_of<E: Display>(alloc: Global, error: &E) -> Got<Text>
     ensures { IfOk result (λ text. IfSome (E.output error.now) (λ shown. text ≡ shown)) }
 {

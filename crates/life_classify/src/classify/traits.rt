@@ -33,7 +33,7 @@ pub trait ClassifyEos: Drop {
     /// What a call at an error means.
     ghost classifies_error: { ClassifiesError Self Self.FailureClass };
 
-    /// Classifies the end of a stream by its trailers, if any came. The one error is want of memory.
+    /// Classifies the end of a stream by its trailers, if any came.
     fn classify_eos(
         self,
         alloc: Global,
@@ -42,7 +42,7 @@ pub trait ClassifyEos: Drop {
         requires { may self }
         ensures { classifies_eos self (option_copied trailers.entry) result };
 
-    /// Classifies an error, which is always a failure. The one error is want of memory.
+    /// Classifies an error, which is always a failure.
     fn classify_error<E: Display>(self, alloc: Global, error: &E) -> Got<Self::FailureClass>
         requires { may self }
         ensures { classifies_error self (E.output error.now) result };
@@ -74,7 +74,7 @@ pub trait ClassifyResponse: Drop {
     /// What a call at an error means.
     ghost classifies_error: { ClassifiesError Self Self.FailureClass };
 
-    /// Classifies a response by its head. The one error is want of memory.
+    /// Classifies a response by its head.
     fn classify_response<B, X>(
         self,
         alloc: Global,
@@ -84,7 +84,7 @@ pub trait ClassifyResponse: Drop {
         ensures classifies { classifies_response self res.now.head.parts result }
         ensures open { IfOk result (λ classified. IfOpen classified Self.ClassifyEos.may) };
 
-    /// Classifies an error, which is always a failure. The one error is want of memory.
+    /// Classifies an error, which is always a failure.
     fn classify_error<E: Display>(self, alloc: Global, error: &E) -> Got<Self::FailureClass>
         requires { may self }
         ensures { classifies_error self (E.output error.now) result };
@@ -119,7 +119,7 @@ pub trait MakeClassifier<X>: Drop {
     /// What a call means.
     ghost makes: { MakesClassifier Self X Self.Classifier };
 
-    /// A classifier for the response to this request. The one error is want of memory.
+    /// A classifier for the response to this request.
     fn make_classifier<B>(&self, alloc: Global, req: &Request<B, X>) -> Got<Self::Classifier>
         requires { may self.now }
         ensures makes { makes self.now req.now.head result }

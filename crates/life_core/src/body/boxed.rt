@@ -1,6 +1,6 @@
 //! One body in place of several, where the original boxes them.
 ghost use Rattle.std.specs.Prelude.{◌≡◌};
-ghost use Rattle.life_core.specs.Boxed.{BoxMay, BoxLeaves, BoxFrames, box_ends, box_hints, IsEmptyBox};
+ghost use Rattle.life_core.specs.UnsyncBoxBody.{BoxMay, BoxAbandons, BoxFrames, box_ends, box_hints, IsEmptyBox};
 
 use crate::Got;
 use crate::body::{Body, DefaultBody};
@@ -30,7 +30,7 @@ impl<B, P> Default for UnsyncBoxBody<B, P> {
 impl<B: Spend<L>, P: Spend<L>, L: Recorder> Spend<L> for UnsyncBoxBody<B, P> {
     ghost may = { BoxMay B.may P.may };
 
-    ghost leaves = { BoxLeaves B.leaves P.leaves };
+    ghost abandons = { BoxAbandons B.abandons P.abandons };
 
     fn abandon(self, cx: &mut Cx<'_, L>) -> Got<()> {
         match self {

@@ -1,6 +1,6 @@
 //! A body of nothing, after http-body-util's `Empty`.
 ghost use Rattle.std.specs.Prelude.{◌≡◌, ⊤, true, Some, Ok};
-ghost use Rattle.life_core.specs.Full.{EmptyFrames, LeavesNothing, empty_body};
+ghost use Rattle.life_core.specs.Full.{EmptyFrames, NothingToAbandon, empty_body};
 
 use crate::Got;
 use crate::body::Body;
@@ -39,7 +39,7 @@ impl Twin for Empty {
 impl<L: Recorder> Spend<L> for Empty {
     ghost may = { λ _. ⊤ };
 
-    ghost leaves = { LeavesNothing };
+    ghost abandons = { NothingToAbandon };
 
     fn abandon(self, _cx: &mut Cx<'_, L>) -> Got<()> {
         drop(self);

@@ -1,6 +1,6 @@
 //! A body of one chunk, after http-body-util's `Full`.
 ghost use Rattle.std.specs.Prelude.{◌≡◌, ⊤};
-ghost use Rattle.life_core.specs.Full.{FullFrames, IsEmptyFull, LeavesNothing, full_of, full_ends, full_hints};
+ghost use Rattle.life_core.specs.Full.{FullFrames, IsEmptyFull, NothingToAbandon, full_of, full_ends, full_hints};
 
 use crate::Got;
 use crate::body::Body;
@@ -55,7 +55,7 @@ impl Twin for Full {
 impl<L: Recorder> Spend<L> for Full {
     ghost may = { λ _. ⊤ };
 
-    ghost leaves = { LeavesNothing };
+    ghost abandons = { NothingToAbandon };
 
     fn abandon(self, _cx: &mut Cx<'_, L>) -> Got<()> {
         drop(self);

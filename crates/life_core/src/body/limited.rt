@@ -1,6 +1,6 @@
 //! A body with room for so many bytes, after http-body-util's `Limited`.
 ghost use Rattle.std.specs.Prelude.{◌≡◌};
-ghost use Rattle.life_core.specs.Limited.{LimitedMay, LimitedLeaves, LimitedFrames, limited_of, limited_ends, limited_hints, length_of};
+ghost use Rattle.life_core.specs.Limited.{LimitedMay, LimitedAbandons, LimitedFrames, limited_of, limited_ends, limited_hints, length_of};
 
 use crate::Got;
 use crate::body::{Body, BodyError};
@@ -40,7 +40,7 @@ fn length_of(frame: &Frame<Bytes>) -> u64
 impl<B: Spend<L>, L: Recorder> Spend<L> for Limited<B> {
     ghost may = { LimitedMay B.may };
 
-    ghost leaves = { LimitedLeaves B.leaves };
+    ghost abandons = { LimitedAbandons B.abandons };
 
     fn abandon(self, cx: &mut Cx<'_, L>) -> Got<()> {
         let Limited { body, room: _ } = self;

@@ -1,5 +1,5 @@
 //! A body under a guard.
-ghost use Rattle.life_drop.specs.EarlyBody.{EarlyFrames, EarlyBodyLeaves, EarlyBodyMay, early_ends, early_hints};
+ghost use Rattle.life_drop.specs.EarlyBody.{EarlyFrames, EarlyBodyAbandons, EarlyBodyMay, early_ends, early_hints};
 
 use crate::on_early_drop::guard::OnEarlyDropGuard;
 use crate::on_early_drop::traits::OnDropCallback;
@@ -26,7 +26,7 @@ impl<B, C> OnEarlyDropBody<B, C> {
 impl<B: Spend<L>, C: OnDropCallback<L>, L: Recorder> Spend<L> for OnEarlyDropBody<B, C> {
     ghost may = { EarlyBodyMay B.may C.may };
 
-    ghost leaves = { EarlyBodyLeaves B.leaves C.drops };
+    ghost abandons = { EarlyBodyAbandons B.abandons C.drops };
 
     fn abandon(self, cx: &mut Cx<'_, L>) -> Got<()> {
         let OnEarlyDropBody { inner, guard } = self;

@@ -1,6 +1,6 @@
 //! A future under a guard.
 ghost use Rattle.std.specs.Prelude.{◌≡◌};
-ghost use Rattle.life_drop.specs.EarlyFuture.{EarlyFutureMay, EarlyFutureLive, EarlyLeaves, EarlyPolls};
+ghost use Rattle.life_drop.specs.EarlyFuture.{EarlyFutureMay, EarlyFutureLive, EarlyAbandons, EarlyPolls};
 
 use crate::on_early_drop::body::OnEarlyDropBody;
 use crate::on_early_drop::guard::OnEarlyDropGuard;
@@ -51,7 +51,7 @@ where
 {
     ghost may = { EarlyFutureMay F.may C.may H.may };
 
-    ghost leaves = { EarlyLeaves F.leaves C.drops };
+    ghost abandons = { EarlyAbandons F.abandons C.drops };
 
     fn abandon(self, cx: &mut Cx<'_, L>) -> Got<()> {
         let OnEarlyDropFuture {
@@ -81,7 +81,7 @@ where
 
     ghost live = { EarlyFutureLive F.live H.may_respond };
 
-    ghost polls = { EarlyPolls F.polls H.makes_at_response B.ends B.leaves };
+    ghost polls = { EarlyPolls F.polls H.makes_at_response B.ends B.abandons };
 
     fn poll(
         &mut self,

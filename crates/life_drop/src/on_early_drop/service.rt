@@ -5,7 +5,7 @@ use crate::on_early_drop::body::OnEarlyDropBody;
 use crate::on_early_drop::future::OnEarlyDropFuture;
 use crate::on_early_drop::traits::{OnBodyDrop, OnFutureDrop};
 use life_core::{
-    Body, Cx, Got, Poll, Recorder, Request, Response, Service, Spend, Twin, give_up_request,
+    Body, Cx, Got, Poll, Recorder, Request, Response, Service, Spend, Twin, abandon_request,
 };
 
 /// Puts each future and each response's body under a guard.
@@ -85,7 +85,7 @@ where
 
     ghost readies = { EarlyReadies S.readies };
 
-    ghost calls = { EarlyCalls S.calls OFD.makes OBD.makes_at_call B.leaves };
+    ghost calls = { EarlyCalls S.calls OFD.makes OBD.makes_at_call B.abandons };
 
     fn poll_ready(&mut self, cx: &mut Cx<'_, L>) -> Poll<Result<(), E>> {
         self.inner.poll_ready(cx)
@@ -94,18 +94,18 @@ where
     fn call(&mut self, req: Request<B, X>, cx: &mut Cx<'_, L>) -> Got<Self::Future> {
         let callback = match self.on_future_drop.make(cx.alloc, &req, cx.now, cx.span) {
             Ok(callback) => callback,
-            Err(_) => return Err(give_up_request(req, cx)),
+            Err(_) => return Err(abandon_request(req, cx)),
         };
         let intermediate = match self
             .on_body_drop
             .make_at_call(cx.alloc, &req, cx.now, cx.span)
         {
             Ok(intermediate) => intermediate,
-            Err(_) => return Err(give_up_request(req, cx)),
+            Err(_) => return Err(abandon_request(req, cx)),
         };
         let on_body_drop = match self.on_body_drop.twin(cx.alloc) {
             Ok(on_body_drop) => on_body_drop,
-            Err(_) => return Err(give_up_request(req, cx)),
+            Err(_) => return Err(abandon_request(req, cx)),
         };
         let inner = self.inner.call(req, cx)?;
         Ok(OnEarlyDropFuture::new(inner, callback, on_body_drop, intermediate))

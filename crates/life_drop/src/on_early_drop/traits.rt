@@ -17,7 +17,7 @@ pub trait OnDropCallback<L: Recorder>: Drop {
     /// What calling it at a time means.
     ghost drops: { Self → ℕ → Recorded → Result Unit NoMemory → Recorded → Type 0 };
 
-    /// Tells of the drop at `now`. The one error is want of memory.
+    /// Tells of the drop at `now`.
     fn on_drop(self, alloc: Global, now: u64, rec: &mut L) -> Got<()>
         requires { may self }
         ensures drops { drops self now (L.recorded rec.old) result (L.recorded rec.new) }
@@ -34,7 +34,7 @@ pub trait OnFutureDrop<B, X, L: Recorder>: Drop {
     /// What a call of `make` means.
     ghost makes: { Self → Request B X → Moment → Result Self.Callback NoMemory → Self → Type 0 };
 
-    /// The callback for a request that is called at `now`. The one error is want of memory.
+    /// The callback for a request that is called at `now`.
     fn make(
         &mut self,
         alloc: Global,
@@ -66,7 +66,7 @@ pub trait OnBodyDrop<B, X, L: Recorder>: Drop {
     /// What a call of `make_at_response` means.
     ghost makes_at_response: { Self → Self.Intermediate → ResponseHead X → Result Self.Callback NoMemory → Self → Type 0 };
 
-    /// What is kept of a request that is called at `now`. The one error is want of memory.
+    /// What is kept of a request that is called at `now`.
     fn make_at_call(
         &mut self,
         alloc: Global,
@@ -79,7 +79,7 @@ pub trait OnBodyDrop<B, X, L: Recorder>: Drop {
         ensures may { may self.new }
         ensures intermediate { IfOk result may_respond };
 
-    /// The callback for the body of this response. The one error is want of memory.
+    /// The callback for the body of this response.
     fn make_at_response(
         &mut self,
         alloc: Global,

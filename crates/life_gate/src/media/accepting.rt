@@ -36,7 +36,7 @@ fn any_matches(wanted: &MediaType, items: &[MediaItem]) -> bool
     items.iter().any(|item| matches_item(wanted, item))
 }
 
-/// Whether an item of the value's list matches. The one error is want of memory.
+/// Whether an item of the value's list matches.
 fn offers(alloc: Global, wanted: &MediaType, value: &HeaderValue) -> Got<bool>
     ensures { IfOk result (λ offers. IsTrue offers ↔ Offers wanted.now value.now) }
 {
@@ -47,7 +47,7 @@ fn offers(alloc: Global, wanted: &MediaType, value: &HeaderValue) -> Got<bool>
     Ok(any_matches(wanted, items.as_slice()))
 }
 
-/// Whether some value of `accept` has an item that matches. The one error is want of memory.
+/// Whether some value of `accept` has an item that matches.
 fn some_offers(alloc: Global, headers: &HeaderMap, wanted: &MediaType) -> Got<bool>
     ensures { IfOk result (λ offers. IsTrue offers ↔ Any (Offers wanted.now) (accepted headers.now)) }
 {
@@ -61,7 +61,7 @@ fn some_offers(alloc: Global, headers: &HeaderMap, wanted: &MediaType) -> Got<bo
 
 /// Whether the headers let the media type pass: no `Accept` header is there, or an item of some value's list
 /// is that media type, its kind with `*`, or `*/*`. A value that is not visible ASCII, spaces and tabs is
-/// skipped, and so is what is no media type. Quality numbers are not looked at. The one error is want of memory.
+/// skipped, and so is what is no media type. Quality numbers are not looked at.
 pub fn accepts(alloc: Global, headers: &HeaderMap, wanted: &MediaType) -> Got<bool>
     ensures { IfOk result (λ accepts. IsTrue accepts ↔ IsAcceptable headers.now wanted.now) }
 {

@@ -19,7 +19,7 @@ fn media_item(alloc: Global, piece: &[u8]) -> Got<MediaItem>
 }
 
 /// The items of the list that the text is, one for each piece between commas outside quoted parts. The empty
-/// text is one bad item. The one error is want of memory.
+/// text is one bad item.
 pub fn media_list(alloc: Global, text: &[u8]) -> Got<MediaItems>
     ensures read { IfOk result (λ list. IsMediaList text.now list.items) }
     ensures only { IfOk result (λ list. (items : Items Item) → IsMediaList text.now items → list.items ≡ items) }

@@ -96,7 +96,7 @@ pub fn before_suffix(token: &[u8]) -> &[u8]
     &token[..end]
 }
 
-/// The bytes of a token in ASCII lower case. The one error is want of memory.
+/// The bytes of a token in ASCII lower case.
 pub fn lowered(alloc: Global, token: &[u8]) -> Got<Text>
     requires { AllPass is_token_byte token.now }
     ensures { IfOk result (λ text. text ≡ lowercase token.now) }

@@ -34,7 +34,7 @@ pub enum MediaItem {
 pub type MediaItems = List<MediaItem>;
 
 /// The media type that the text is, or none where it is no media type: blanks, a token, a slash, a token,
-/// blanks, and nothing more or a semicolon and anything. The one error is want of memory.
+/// blanks, and nothing more or a semicolon and anything.
 pub fn media_type(alloc: Global, text: &[u8]) -> Got<Option<MediaType>>
     ensures read { IfOk result (λ found. MatchOption found (IsNoMediaType text.now) (λ media. IsMediaType text.now media)) }
     // memory is asked for only where the text is a media type

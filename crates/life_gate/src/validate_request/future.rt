@@ -43,11 +43,11 @@ where
     B: Spend<L>,
     X: Drop,
 {
-    ghost use Rattle.life_gate.specs.Gate.{GateFutureMay, GateLeaves};
+    ghost use Rattle.life_gate.specs.Gate.{GateFutureMay, GateAbandons};
 
     ghost may = { GateFutureMay F.may B.may };
 
-    ghost leaves = { GateLeaves F.leaves B.leaves };
+    ghost abandons = { GateAbandons F.abandons B.abandons };
 
     fn abandon(self, cx: &mut Cx<'_, L>) -> Got<()> {
         let ResponseFuture { kind } = self;

@@ -11,7 +11,7 @@ use crate::validate_request::accept::{AcceptError, AcceptHeader};
 use crate::validate_request::future::ResponseFuture;
 use crate::validate_request::validate::ValidateRequest;
 use life_core::{
-    Cx, Got, Poll, Recorder, Request, Response, Service, Spend, Twin, give_up_request,
+    Cx, Got, Poll, Recorder, Request, Response, Service, Spend, Twin, abandon_request,
 };
 use std::alloc::Global;
 
@@ -25,7 +25,7 @@ pub struct ValidateRequestHeader<S, T> {
 
 impl<S, R> ValidateRequestHeader<S, AcceptHeader<R>> {
     /// The service that asks for the media type that the text is. It refuses a text that is none as `BadMime`,
-    /// and then the inner service is given up.
+    /// and then the inner service is abandoned.
     pub fn accept(
         alloc: Global,
         inner: S,
@@ -104,7 +104,7 @@ where
     L: Recorder,
     requires request { B.may req.body }
     requires refusal { C.may refusal.body }
-    ensures refused { RefusedBy B.leaves C.leaves req.body refusal (L.recorded cx.old.rec.now) (moment_of cx.old) result (L.recorded cx.new.rec.now) }
+    ensures refused { RefusedBy B.abandons C.abandons req.body refusal (L.recorded cx.old.rec.now) (moment_of cx.old) result (L.recorded cx.new.rec.now) }
     ensures context { SameContext L.place cx.old cx.new }
 {
     let (head, body) = req.into_parts();
@@ -147,7 +147,7 @@ where
 
     ghost readies = { GateReadies S.readies };
 
-    ghost calls = { GateCalls S.calls T.validates B.leaves C.leaves };
+    ghost calls = { GateCalls S.calls T.validates B.abandons C.abandons };
 
     fn poll_ready(&mut self, cx: &mut Cx<'_, L>) -> Poll<Result<(), E>> {
         self.inner.poll_ready(cx)
@@ -165,7 +165,7 @@ where
                 Err(no_memory) => Err(no_memory),
             },
             Ok(Err(refusal)) => refuse(req, refusal, cx),
-            Err(_) => Err(give_up_request(req, cx)),
+            Err(_) => Err(abandon_request(req, cx)),
         }
     }
 }

@@ -16,8 +16,7 @@ pub trait ValidateRequest<B, X>: Drop {
     /// What a call means.
     ghost validates: { Validates Self B Self.ResponseBody X };
 
-    /// Lets the request pass, or answers the response that refuses it. It may change the request. The one
-    /// error is want of memory.
+    /// Lets the request pass, or answers the response that refuses it. It may change the request.
     fn validate(
         &mut self,
         alloc: Global,

@@ -62,7 +62,7 @@ pub trait MakeRequestId<B, X> {
     /// What a call means: the value before, the request, the answer, the value after.
     ghost makes: { Makes Self B X };
 
-    /// An id for this request, or none. The one error is want of memory.
+    /// An id for this request, or none.
     fn make_request_id(&mut self, alloc: Global, request: &Request<B, X>) -> Got<Option<RequestId>>
         requires { may self.old }
         ensures makes { makes self.old request.now result self.new }

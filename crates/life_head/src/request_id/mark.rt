@@ -17,7 +17,7 @@ pub fn adopt<X: Slot<RequestId>>(ext: &mut X, value: HeaderValue)
     }
 }
 
-/// Puts an id into header and extension. The one error is want of memory.
+/// Puts an id into header and extension.
 pub fn give<X: Slot<RequestId>>(
     alloc: Global,
     headers: &mut HeaderMap,

@@ -5,8 +5,8 @@ use crate::request_id::id::RequestId;
 use crate::request_id::propagating::PropagateRequestIdResponseFuture;
 use http::header::HeaderName;
 use life_core::{
-    Cx, Got, Layer, Poll, Recorder, Request, Response, Service, Slot, Spend, Twin, first_value,
-    give_up_request,
+    Cx, Got, Layer, Poll, Recorder, Request, Response, Service, Slot, Spend, Twin, abandon_request,
+    first_value,
 };
 use std::alloc::Global;
 
@@ -150,7 +150,7 @@ where
 
     ghost readies = { PropagateReadies S.readies };
 
-    ghost calls = { PropagateCalls S.calls B.leaves };
+    ghost calls = { PropagateCalls S.calls B.abandons };
 
     fn poll_ready(&mut self, cx: &mut Cx<'_, L>) -> Poll<Result<(), E>> {
         self.inner.poll_ready(cx)
@@ -162,10 +162,10 @@ where
         cx: &mut Cx<'_, L>,
     ) -> Got<PropagateRequestIdResponseFuture<S::Future>> {
         let Ok(kept) = first_value(req.headers(), &self.header_name) else {
-            return Err(give_up_request(req, cx));
+            return Err(abandon_request(req, cx));
         };
         let Ok(header_name) = self.header_name.twin(cx.alloc) else {
-            return Err(give_up_request(req, cx));
+            return Err(abandon_request(req, cx));
         };
         match self.inner.call(req, cx) {
             Ok(inner) => Ok(PropagateRequestIdResponseFuture::new(inner, header_name, kept)),

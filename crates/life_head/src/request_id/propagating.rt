@@ -35,7 +35,7 @@ impl<F> PropagateRequestIdResponseFuture<F> {
     }
 }
 
-/// Gives the response its id. The one error is want of memory.
+/// Gives the response its id.
 fn mark<X: Slot<RequestId>>(
     alloc: Global,
     name: &HeaderName,
@@ -58,11 +58,11 @@ fn mark<X: Slot<RequestId>>(
 }
 
 impl<F: Spend<L>, L: Recorder> Spend<L> for PropagateRequestIdResponseFuture<F> {
-    ghost use Rattle.life_head.specs.Propagating.{PropagateFutureMay, PropagateLeaves};
+    ghost use Rattle.life_head.specs.Propagating.{PropagateFutureMay, PropagateAbandons};
 
     ghost may = { PropagateFutureMay F.may };
 
-    ghost leaves = { PropagateLeaves F.leaves };
+    ghost abandons = { PropagateAbandons F.abandons };
 
     fn abandon(self, cx: &mut Cx<'_, L>) -> Got<()> {
         let PropagateRequestIdResponseFuture {
@@ -87,7 +87,7 @@ where
 
     ghost live = { PropagateFutureMay F.live };
 
-    ghost polls = { PropagatePolls F.polls B.leaves X.holds X.after };
+    ghost polls = { PropagatePolls F.polls B.abandons X.holds X.after };
 
     fn poll(&mut self, cx: &mut Cx<'_, L>) -> Got<Poll<Result<Response<B, X>, E>>> {
         let mut asking = Cx {

@@ -6,8 +6,8 @@ use crate::request_id::id::{MakeRequestId, RequestId};
 use crate::request_id::mark::{adopt, give};
 use http::header::HeaderName;
 use life_core::{
-    Cx, Got, Layer, Poll, Recorder, Request, Service, Slot, Spend, Twin, first_value,
-    give_up_request,
+    Cx, Got, Layer, Poll, Recorder, Request, Service, Slot, Spend, Twin, abandon_request,
+    first_value,
 };
 use std::alloc::Global;
 
@@ -146,7 +146,7 @@ impl<S: Twin + Drop, M: Twin> Twin for SetRequestId<S, M> {
     }
 }
 
-/// Gives the request its id. The one error is want of memory.
+/// Gives the request its id.
 fn tag<M, B, X>(
     alloc: Global,
     maker: &mut M,
@@ -201,7 +201,7 @@ where
 
     ghost readies = { SetReadies S.readies };
 
-    ghost calls = { SetCalls S.calls M.makes X.holds X.after B.leaves };
+    ghost calls = { SetCalls S.calls M.makes X.holds X.after B.abandons };
 
     fn poll_ready(&mut self, cx: &mut Cx<'_, L>) -> Poll<Result<(), S::Error>> {
         self.inner.poll_ready(cx)
@@ -216,7 +216,7 @@ where
             &mut req,
         ) {
             Ok(()) => self.inner.call(req, cx),
-            Err(_) => Err(give_up_request(req, cx)),
+            Err(_) => Err(abandon_request(req, cx)),
         }
     }
 }

@@ -1,6 +1,6 @@
 //! The future of `CatchPanic`.
 ghost use Rattle.std.specs.Prelude.{◌≡◌, None, Some, IfOk};
-ghost use Rattle.life_core.specs.Boxed.{BoxMay};
+ghost use Rattle.life_core.specs.UnsyncBoxBody.{BoxMay};
 ghost use Rattle.life_core.specs.Moment.{moment_of, SameContext};
 ghost use Rattle.life_limit.specs.Catch.{watching, telling, HandlerGives};
 
@@ -11,10 +11,15 @@ use life_core::{
 
 /// The future of `CatchPanic`. A panic of the inner future becomes the handler's response in the same poll.
 pub struct ResponseFuture<F, T> {
-    inner: Option<F>,
-    /// What a panic before the call said. It is answered at the first poll, in place of an inner future.
-    text: Option<PanicText>,
-    handler: T,
+    kind: Kind<F>,
+    panic_handler: T,
+}
+
+/// What such a future holds.
+enum Kind<F> {
+    Future(F),
+    /// What a panic before the call said, or none once a poll told it.
+    Panicked(Option<PanicText>),
 }
 
 impl<F, T> ResponseFuture<F, T> {
@@ -23,9 +28,8 @@ impl<F, T> ResponseFuture<F, T> {
         ensures { result ≡ watching inner handler }
     {
         ResponseFuture {
-            inner: Some(inner),
-            text: None,
-            handler,
+            kind: Kind::Future(inner),
+            panic_handler: handler,
         }
     }
 
@@ -34,14 +38,13 @@ impl<F, T> ResponseFuture<F, T> {
         ensures { result ≡ telling text handler }
     {
         ResponseFuture {
-            inner: None,
-            text,
-            handler,
+            kind: Kind::Panicked(text),
+            panic_handler: handler,
         }
     }
 }
 
-/// The handler's response to a panic. The one error is want of memory.
+/// The handler's response to a panic.
 fn respond<T, B, X, L>(
     handler: &mut T,
     text: PanicText,
@@ -57,31 +60,26 @@ where
     ensures body { IfOk result (λ response. BoxMay B.may T.ResponseBody.may response.body) }
     ensures context { SameContext L.place cx.old cx.new }
 {
-    match handler.response_for_panic(cx.alloc, text, cx.rec) {
-        Ok(response) => {
-            let (head, body) = response.into_parts();
-            Ok(Response::from_parts(head, UnsyncBoxBody::Panic(body)))
-        }
-        Err(no_memory) => Err(no_memory),
-    }
+    let response = handler.response_for_panic(cx.alloc, text, cx.rec)?;
+    let (head, body) = response.into_parts();
+    Ok(Response::from_parts(head, UnsyncBoxBody::Panic(body)))
 }
 
 impl<F: Spend<L>, T: Drop, L: Recorder> Spend<L> for ResponseFuture<F, T> {
-    ghost use Rattle.life_limit.specs.Catch.{CatchFutureMay, CatchLeaves};
+    ghost use Rattle.life_limit.specs.Catch.{CatchFutureMay, CatchAbandons};
 
     ghost may = { CatchFutureMay F.may };
 
-    ghost leaves = { CatchLeaves F.leaves };
+    ghost abandons = { CatchAbandons F.abandons };
 
     fn abandon(self, cx: &mut Cx<'_, L>) -> Got<()> {
         let ResponseFuture {
-            inner,
-            text: _,
-            handler: _,
+            kind,
+            panic_handler: _,
         } = self;
-        match inner {
-            Some(inner) => inner.abandon(cx),
-            None => Ok(()),
+        match kind {
+            Kind::Future(future) => future.abandon(cx),
+            Kind::Panicked(_) => Ok(()),
         }
     }
 }
@@ -105,25 +103,22 @@ where
         &mut self,
         cx: &mut Cx<'_, L>,
     ) -> Got<Poll<Result<Response<UnsyncBoxBody<B, T::ResponseBody>, X>, E>>> {
-        if let Some(text) = self.text.take() {
-            return match respond(&mut self.handler, text, cx) {
-                Ok(response) => Ok(Poll::Ready(Ok(response))),
-                Err(no_memory) => Err(no_memory),
-            };
-        }
-        let answer = match &mut self.inner {
-            Some(inner) => inner.poll(cx)?,
-            None => unreachable!(),
+        let answer = match &mut self.kind {
+            Kind::Future(future) => future.poll(cx)?,
+            Kind::Panicked(text) => match text.take() {
+                Some(text) => Poll::Ready(Err(Fault::Panicked(text))),
+                None => Poll::Pending,
+            },
         };
         match answer {
             Poll::Ready(Ok(response)) => {
                 let (head, body) = response.into_parts();
                 Ok(Poll::Ready(Ok(Response::from_parts(head, UnsyncBoxBody::Inner(body)))))
             }
-            Poll::Ready(Err(Fault::Panicked(text))) => match respond(&mut self.handler, text, cx) {
-                Ok(response) => Ok(Poll::Ready(Ok(response))),
-                Err(no_memory) => Err(no_memory),
-            },
+            Poll::Ready(Err(Fault::Panicked(text))) => {
+                let response = respond(&mut self.panic_handler, text, cx)?;
+                Ok(Poll::Ready(Ok(response)))
+            }
             Poll::Ready(Err(Fault::Err(error))) => Ok(Poll::Ready(Err(error))),
             Poll::Pending => Ok(Poll::Pending),
         }

@@ -23,7 +23,7 @@ pub trait ResponseForPanic<X, L: Recorder>: Drop {
     /// What a call means.
     ghost handles: { Handles Self Self.ResponseBody X };
 
-    /// The response to a panic that said this. The one error is want of memory.
+    /// The response to a panic that said this.
     fn response_for_panic(
         &mut self,
         alloc: Global,

@@ -7,7 +7,7 @@ use crate::catch_panic::future::ResponseFuture;
 use crate::catch_panic::handler::{DefaultResponseForPanic, ResponseForPanic};
 use life_core::{
     Cx, Fault, Got, PanicText, Poll, Recorder, Request, Response, Service, Spend, Twin,
-    UnsyncBoxBody, give_up_request,
+    UnsyncBoxBody, abandon_request,
 };
 use std::alloc::Global;
 
@@ -108,14 +108,12 @@ where
     X: Drop,
     L: Recorder,
     requires { B.may req.body }
-    ensures told { TellsBy B.leaves req.body (L.recorded cx.old.rec.now) (moment_of cx.old) kept.old handler result kept.new (L.recorded cx.new.rec.now) }
+    ensures told { TellsBy B.abandons req.body (L.recorded cx.old.rec.now) (moment_of cx.old) kept.old handler result kept.new (L.recorded cx.new.rec.now) }
     ensures context { SameContext L.place cx.old cx.new }
 {
     let Request { head: _, body } = req;
-    match body.abandon(cx) {
-        Ok(()) => Ok(ResponseFuture::telling(kept.take(), handler)),
-        Err(no_memory) => Err(no_memory),
-    }
+    body.abandon(cx)?;
+    Ok(ResponseFuture::telling(kept.take(), handler))
 }
 
 impl<S, T, Q, B, X, E, L> Service<Request<Q, X>, L> for CatchPanic<S, T>
@@ -139,7 +137,7 @@ where
 
     ghost readies = { CatchReadies S.readies };
 
-    ghost calls = { CatchCalls S.calls Q.leaves };
+    ghost calls = { CatchCalls S.calls Q.abandons };
 
     fn poll_ready(&mut self, cx: &mut Cx<'_, L>) -> Poll<Result<(), E>> {
         match self.inner.poll_ready(cx) {
@@ -159,7 +157,7 @@ where
         cx: &mut Cx<'_, L>,
     ) -> Got<ResponseFuture<S::Future, T>> {
         let Ok(handler) = self.panic_handler.twin(cx.alloc) else {
-            return Err(give_up_request(req, cx));
+            return Err(abandon_request(req, cx));
         };
         if self.kept.is_some() {
             return match tell(&mut self.kept, handler, req, cx) {

@@ -1,6 +1,6 @@
 //! The bodies of `RequestBodyLimit`'s responses.
 ghost use Rattle.std.specs.Prelude.{IfOk};
-ghost use Rattle.life_limit.specs.LimitBody.{IsDefaultBody, LimitBodyMay, LimitBodyLeaves, LimitBodyFrames, limit_body_ends, limit_body_hints, default_may_by};
+ghost use Rattle.life_limit.specs.LimitBody.{IsDefaultBody, LimitBodyMay, LimitBodyAbandons, LimitBodyFrames, limit_body_ends, limit_body_hints, default_may_by};
 ghost use Rattle.life_limit.specs.Limit.{IsTooLarge};
 
 use bytes::Bytes;
@@ -26,7 +26,7 @@ impl<B: Default> Default for ResponseBody<B> {
 impl<B: Spend<L>, L: Recorder> Spend<L> for ResponseBody<B> {
     ghost may = { LimitBodyMay B.may };
 
-    ghost leaves = { LimitBodyLeaves B.leaves };
+    ghost abandons = { LimitBodyAbandons B.abandons };
 
     fn abandon(self, cx: &mut Cx<'_, L>) -> Got<()> {
         match self {
@@ -89,17 +89,15 @@ where
     ghost default_may = { default_may_by B.default_may };
 }
 
-/// Status 413 with a plain text. The one error is want of memory.
+/// Status 413 with a plain text.
 pub(crate) fn create_error_response<B, X: Default + Drop>(
     alloc: Global,
 ) -> Got<Response<ResponseBody<B>, X>>
     ensures { IfOk result (IsTooLarge X.is_default) }
 {
-    match ResponseHead::text(alloc, StatusCode::PAYLOAD_TOO_LARGE) {
-        Ok(head) => Ok(Response::from_parts(
-            head,
-            ResponseBody::PayloadTooLarge(Full::new(Bytes::from_static(b"length limit exceeded"))),
-        )),
-        Err(no_memory) => Err(no_memory),
-    }
+    let head = ResponseHead::text(alloc, StatusCode::PAYLOAD_TOO_LARGE)?;
+    Ok(Response::from_parts(
+        head,
+        ResponseBody::PayloadTooLarge(Full::new(Bytes::from_static(b"length limit exceeded"))),
+    ))
 }

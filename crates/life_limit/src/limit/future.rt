@@ -1,46 +1,55 @@
 //! The future of `RequestBodyLimit`.
-ghost use Rattle.std.specs.Prelude.{◌≡◌, None, Some};
-ghost use Rattle.life_limit.specs.Limit.{future_of};
+ghost use Rattle.std.specs.Prelude.{◌≡◌};
+ghost use Rattle.life_limit.specs.Limit.{future_over, too_large_future};
 
 use crate::limit::body::{ResponseBody, create_error_response};
 use bytes::Bytes;
 use life_core::{Body, Cx, Future, Got, Poll, Recorder, Response, Spend};
 
-/// The future of `RequestBodyLimit`: the inner one, or none where the request was too large.
+/// The future of `RequestBodyLimit`: the inner one, or one that answers 413.
 pub struct ResponseFuture<F> {
-    inner: Option<F>,
+    kind: Kind<F>,
+}
+
+/// What such a future holds.
+enum Kind<F> {
+    Future(F),
+    /// Nothing, where the request was too large.
+    PayloadTooLarge,
 }
 
 impl<F> ResponseFuture<F> {
     /// A future that answers 413.
     pub(crate) fn payload_too_large() -> ResponseFuture<F>
-        ensures { result ≡ future_of None }
+        ensures { result ≡ too_large_future }
     {
-        ResponseFuture { inner: None }
+        ResponseFuture {
+            kind: Kind::PayloadTooLarge,
+        }
     }
 
     /// A future that answers as this one.
     pub(crate) fn new(future: F) -> ResponseFuture<F>
-        ensures { result ≡ future_of (Some future) }
+        ensures { result ≡ future_over future }
     {
         ResponseFuture {
-            inner: Some(future),
+            kind: Kind::Future(future),
         }
     }
 }
 
 impl<F: Spend<L>, L: Recorder> Spend<L> for ResponseFuture<F> {
-    ghost use Rattle.life_limit.specs.Limit.{LimitFutureMay, LimitLeaves};
+    ghost use Rattle.life_limit.specs.Limit.{LimitFutureMay, LimitAbandons};
 
     ghost may = { LimitFutureMay F.may };
 
-    ghost leaves = { LimitLeaves F.leaves };
+    ghost abandons = { LimitAbandons F.abandons };
 
     fn abandon(self, cx: &mut Cx<'_, L>) -> Got<()> {
-        let ResponseFuture { inner } = self;
-        match inner {
-            Some(inner) => inner.abandon(cx),
-            None => Ok(()),
+        let ResponseFuture { kind } = self;
+        match kind {
+            Kind::Future(future) => future.abandon(cx),
+            Kind::PayloadTooLarge => Ok(()),
         }
     }
 }
@@ -61,20 +70,16 @@ where
     ghost polls = { LimitPolls F.polls X.is_default };
 
     fn poll(&mut self, cx: &mut Cx<'_, L>) -> Got<Poll<Result<Response<ResponseBody<B>, X>, E>>> {
-        let Some(inner) = &mut self.inner else {
-            return match create_error_response(cx.alloc) {
-                Ok(response) => Ok(Poll::Ready(Ok(response))),
-                Err(no_memory) => Err(no_memory),
-            };
-        };
-        match inner.poll(cx) {
-            Ok(Poll::Ready(Ok(response))) => {
-                let (head, body) = response.into_parts();
-                Ok(Poll::Ready(Ok(Response::from_parts(head, ResponseBody::Body(body)))))
-            }
-            Ok(Poll::Ready(Err(error))) => Ok(Poll::Ready(Err(error))),
-            Ok(Poll::Pending) => Ok(Poll::Pending),
-            Err(no_memory) => Err(no_memory),
+        match &mut self.kind {
+            Kind::Future(future) => match future.poll(cx)? {
+                Poll::Ready(Ok(response)) => {
+                    let (head, body) = response.into_parts();
+                    Ok(Poll::Ready(Ok(Response::from_parts(head, ResponseBody::Body(body)))))
+                }
+                Poll::Ready(Err(error)) => Ok(Poll::Ready(Err(error))),
+                Poll::Pending => Ok(Poll::Pending),
+            },
+            Kind::PayloadTooLarge => Ok(Poll::Ready(Ok(create_error_response(cx.alloc)?))),
         }
     }
 }

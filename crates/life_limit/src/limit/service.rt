@@ -69,22 +69,19 @@ impl<S: Twin> Twin for RequestBodyLimit<S> {
     }
 }
 
-/// Abandons the body of a request that is too large, and gives the future that says so. The one error is
-/// want of memory.
+/// Abandons the body of a request that is too large, and gives the future that says so.
 fn refuse<F, B, X, L>(req: Request<B, X>, cx: &mut Cx<'_, L>) -> Got<ResponseFuture<F>>
 where
     B: Spend<L>,
     X: Drop,
     L: Recorder,
     requires { B.may req.body }
-    ensures refused { RefusedBy B.leaves req.body (L.recorded cx.old.rec.now) (moment_of cx.old) result (L.recorded cx.new.rec.now) }
+    ensures refused { RefusedBy B.abandons req.body (L.recorded cx.old.rec.now) (moment_of cx.old) result (L.recorded cx.new.rec.now) }
     ensures context { SameContext L.place cx.old cx.new }
 {
     let Request { head: _, body } = req;
-    match body.abandon(cx) {
-        Ok(()) => Ok(ResponseFuture::payload_too_large()),
-        Err(no_memory) => Err(no_memory),
-    }
+    body.abandon(cx)?;
+    Ok(ResponseFuture::payload_too_large())
 }
 
 impl<S, B, C, X, E, L> Service<Request<B, X>, L> for RequestBodyLimit<S>
@@ -107,7 +104,7 @@ where
 
     ghost readies = { LimitReadies S.readies };
 
-    ghost calls = { LimitCalls S.calls B.leaves };
+    ghost calls = { LimitCalls S.calls B.abandons };
 
     fn poll_ready(&mut self, cx: &mut Cx<'_, L>) -> Poll<Result<(), E>> {
         self.inner.poll_ready(cx)

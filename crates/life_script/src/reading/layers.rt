@@ -40,7 +40,7 @@ fn has_unbuilt_limit(limits: &Value) -> bool
 }
 
 /// The header that lets a request through and what its first value must be, or none where one of them is
-/// missing or is no name. The one error is want of memory.
+/// missing or is no name.
 fn read_gate(alloc: Global, limits: &Value) -> Result<Option<(HeaderName, Text)>, ReadError>
     ensures ok { IfOk result (λ (gate : Option (List ℕ × List ℕ)). gate ≡ gate_of (view limits.now)) }
     ensures err { IfErr result (λ e. e ≡ ReadError.NoMemory) }

@@ -5,15 +5,15 @@ ghost use Rattle.life_session.specs.Exchange.{IsFresh, MayGoOn};
 ghost use Rattle.life_session.specs.Session.{May, RunsOn, Tells};
 
 use crate::exchange::live::Live;
-use crate::exchange::{Exchange, begin_exchange, idle_exchange, leave, take_turn, tell};
+use crate::exchange::{Exchange, abandon_at, begin_exchange, idle_exchange, take_turn, tell};
 use crate::table::Driven;
 use life_core::{Got, NoMemory};
 use life_script::{Script, Step, ToldList};
 use std::alloc::{AllocFailed, Global};
 use std::mem;
 
-/// Gives up all exchanges at a time; what that records is lost.
-pub(crate) fn leave_all<D: Driven>(
+/// Abandons all exchanges at a time; what that records is lost.
+pub(crate) fn abandon_all<D: Driven>(
     exchanges: Vec<Exchange<D::Future, D::Body>>,
     at: u64,
     alloc: Global,
@@ -22,12 +22,12 @@ pub(crate) fn leave_all<D: Driven>(
 {
     let mut rest = exchanges.into_iter();
     while let Some(exchange) = rest.next() {
-        leave::<D>(exchange, at, alloc);
+        abandon_at::<D>(exchange, at, alloc);
     }
     rest.destroy_empty();
 }
 
-/// An exchange for each request, with room for as many turns as are counted. The one error is want of memory.
+/// An exchange for each request, with room for as many turns as are counted.
 pub(crate) fn begin_all<D: Driven>(
     alloc: Global,
     counts: &[u64],
@@ -40,13 +40,13 @@ pub(crate) fn begin_all<D: Driven>(
         let exchange = match begin_exchange::<D::Future, D::Body>(alloc, *count) {
             Ok(exchange) => exchange,
             Err(no_memory) => {
-                leave_all::<D>(exchanges, 0, alloc);
+                abandon_all::<D>(exchanges, 0, alloc);
                 return Err(no_memory);
             }
         };
         if let Err(AllocFailed { value }) = exchanges.push(exchange) {
-            leave::<D>(value, 0, alloc);
-            leave_all::<D>(exchanges, 0, alloc);
+            abandon_at::<D>(value, 0, alloc);
+            abandon_all::<D>(exchanges, 0, alloc);
             return Err(NoMemory);
         }
     }
@@ -71,7 +71,7 @@ fn put<F, B>(exchanges: &mut Vec<Exchange<F, B>>, i: usize, exchange: Exchange<F
 }
 
 /// Runs a step in the exchange of its request. Where it is refused for memory, what was live of that request
-/// was given up; a Drop is not refused.
+/// was abandoned; a Drop is not refused.
 pub(crate) fn run_step<D: Driven>(
     stack: &mut D::Stack,
     scripts: &[Script],
@@ -91,7 +91,7 @@ pub(crate) fn run_step<D: Driven>(
 {
     let i = step.request as usize;
     let exchange = mem::replace(&mut exchanges[i], idle_exchange(alloc));
-    D::tells_nothing();
+    D::idles();
     match take_turn::<D>(stack, &scripts[i], exchange, step, alloc) {
         Ok(exchange) => {
             put(exchanges, i, exchange);

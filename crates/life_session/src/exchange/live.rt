@@ -21,8 +21,8 @@ pub enum Live<F, B> {
     Over,
 }
 
-/// Gives up a body that can't go on for want of memory.
-fn give_up<S, L>(
+/// Abandons a body that can't go on for want of memory.
+fn abandon_refused<S, L>(
     body: S::Body,
     no_memory: NoMemory,
     cx: &mut Cx<'_, L>,
@@ -34,7 +34,7 @@ where
     ensures err { (e : _) × (result ≡ Err e) }
     ensures context { SameContext L.place cx.old cx.new }
 {
-    let _ = S::leave_body(body, cx);
+    let _ = S::abandon_body(body, cx);
     Err(no_memory)
 }
 
@@ -42,17 +42,15 @@ where
 fn response_answer<X>(alloc: Global, head: &ResponseHead<X>, ended: bool) -> Got<Answer>
     ensures { IfOk result (λ a. a ≡ Answer.Response head.now.parts.status (fields head.now.parts.headers) ended) }
 {
-    match Fields::of(alloc, &head.parts.headers) {
-        Ok(headers) => Ok(Answer::Response {
-            status: head.parts.status,
-            headers,
-            ended,
-        }),
-        Err(no_memory) => Err(no_memory),
-    }
+    let headers = Fields::of(alloc, &head.parts.headers)?;
+    Ok(Answer::Response {
+        status: head.parts.status,
+        headers,
+        ended,
+    })
 }
 
-/// A response, whose body is live from now on; `left` is how its future was given up.
+/// A response, whose body is live from now on; `left` is how its future was abandoned.
 fn respond<S, L>(
     response: Response<S::Body, S::Ext>,
     left: Got<()>,
@@ -73,12 +71,12 @@ where
     let ended = S::ends_at(&body);
     match (left, response_answer(cx.alloc, &head, ended)) {
         (Ok(()), Ok(answer)) => Ok((Live::Body(body), answer)),
-        (Ok(()), Err(no_memory)) => give_up::<S, L>(body, no_memory, cx),
-        (Err(no_memory), _) => give_up::<S, L>(body, no_memory, cx),
+        (Ok(()), Err(no_memory)) => abandon_refused::<S, L>(body, no_memory, cx),
+        (Err(no_memory), _) => abandon_refused::<S, L>(body, no_memory, cx),
     }
 }
 
-/// Polls a future, which is given up in the same act once it answered.
+/// Polls a future, which is abandoned in the same act once it answered.
 fn poll_waiting<S, L>(
     future: S::Future,
     cx: &mut Cx<'_, L>,
@@ -97,18 +95,15 @@ where
     match S::poll_at(&mut future, cx) {
         Ok(Poll::Pending) => Ok((Live::Future(future), Answer::Pending)),
         Ok(Poll::Ready(Ok(response))) => {
-            let left = S::leave_future(future, cx);
-            match respond::<S, L>(response, left, cx) {
-                Ok(shown) => Ok(shown),
-                Err(no_memory) => Err(no_memory),
-            }
+            let left = S::abandon_future(future, cx);
+            respond::<S, L>(response, left, cx)
         }
-        Ok(Poll::Ready(Err(error))) => match S::leave_future(future, cx) {
-            Ok(()) => Ok((Live::Over, Answer::ServiceError(error))),
-            Err(no_memory) => Err(no_memory),
-        },
+        Ok(Poll::Ready(Err(error))) => {
+            S::abandon_future(future, cx)?;
+            Ok((Live::Over, Answer::ServiceError(error)))
+        }
         Err(no_memory) => {
-            let _ = S::leave_future(future, cx);
+            let _ = S::abandon_future(future, cx);
             Err(no_memory)
         }
     }
@@ -135,19 +130,16 @@ where
             let ended = S::ends_at(&body);
             match seen_in(cx.alloc, frame) {
                 Ok(frame) => Ok((Live::Body(body), Answer::Frame { frame, ended })),
-                Err(no_memory) => give_up::<S, L>(body, no_memory, cx),
+                Err(no_memory) => abandon_refused::<S, L>(body, no_memory, cx),
             }
         }
         Ok(Poll::Ready(Some(Err(fault)))) => Ok((Live::Body(body), Answer::Fault(fault))),
         Ok(Poll::Ready(None)) => Ok((Live::Body(body), Answer::End)),
-        Err(no_memory) => match give_up::<S, L>(body, no_memory, cx) {
-            Ok(shown) => Ok(shown),
-            Err(no_memory) => Err(no_memory),
-        },
+        Err(no_memory) => abandon_refused::<S, L>(body, no_memory, cx),
     }
 }
 
-/// Gives up a future that waits.
+/// Abandons a future that waits.
 fn drop_waiting<S, L>(
     future: S::Future,
     cx: &mut Cx<'_, L>,
@@ -163,13 +155,11 @@ where
         → IfOk result (λ p. Shown S.meaning k acts (cx.old.now, Act.Drop) (L.recorded cx.old.rec.now) p (L.recorded cx.new.rec.now)) }
     ensures context { SameContext L.place cx.old cx.new }
 {
-    match S::leave_future(future, cx) {
-        Ok(()) => Ok((Live::Over, Answer::Dropped)),
-        Err(no_memory) => Err(no_memory),
-    }
+    S::abandon_future(future, cx)?;
+    Ok((Live::Over, Answer::Dropped))
 }
 
-/// Gives up a body.
+/// Abandons a body.
 fn drop_streaming<S, L>(
     body: S::Body,
     cx: &mut Cx<'_, L>,
@@ -185,10 +175,8 @@ where
         → IfOk result (λ p. Shown S.meaning k acts (cx.old.now, Act.Drop) (L.recorded cx.old.rec.now) p (L.recorded cx.new.rec.now)) }
     ensures context { SameContext L.place cx.old cx.new }
 {
-    match S::leave_body(body, cx) {
-        Ok(()) => Ok((Live::Over, Answer::Dropped)),
-        Err(no_memory) => Err(no_memory),
-    }
+    S::abandon_body(body, cx)?;
+    Ok((Live::Over, Answer::Dropped))
 }
 
 /// The first call of the request of a number.
@@ -213,14 +201,12 @@ where
         Ok(request) => request,
         Err(no_memory) => return Err(no_memory),
     };
-    match S::call_at(stack, request, cx) {
-        Ok(future) => Ok((Live::Future(future), Answer::Called)),
-        Err(no_memory) => Err(no_memory),
-    }
+    let future = S::call_at(stack, request, cx)?;
+    Ok((Live::Future(future), Answer::Called))
 }
 
 /// One act of the request of a number, at a time that is not before the acts so far. Where it is refused for
-/// memory, all that was live was given up. A Drop for whose record there is room is not refused.
+/// memory, all that was live was abandoned. A Drop for whose record there is room is not refused.
 pub fn act_on<S, L>(
     stack: &mut S::Stack,
     script: &Script,
@@ -243,7 +229,7 @@ where
         → NotBefore cx.old.now acts → IfOk result (λ p. Shown S.meaning (S.meaning.key_of limits number script.now) acts (cx.old.now, act) (L.recorded cx.old.rec.now) p (L.recorded cx.new.rec.now)) }
     ensures context { SameContext L.place cx.old cx.new }
 {
-    S::tells_nothing();
+    S::idles();
     match live {
         Live::Fresh => match act {
             Act::Call => call_fresh::<S, L>(stack, script, number, cx),
@@ -264,7 +250,7 @@ where
     }
 }
 
-/// Gives up what is live at the end. It is not refused where there is room for the record of an early drop.
+/// Abandons what is live at the end. It is not refused where there is room for the record of an early drop.
 pub fn finish<S, L>(live: Live<S::Future, S::Body>, cx: &mut Cx<'_, L>) -> Got<()>
 where
     L: Recorder,
@@ -275,11 +261,11 @@ where
         → IfOk result (λ done. Ended S.meaning k acts cx.old.now (L.recorded cx.old.rec.now) (L.recorded cx.new.rec.now)) }
     ensures context { SameContext L.place cx.old cx.new }
 {
-    S::tells_nothing();
+    S::idles();
     match live {
         Live::Fresh => Ok(()),
-        Live::Future(future) => S::leave_future(future, cx),
-        Live::Body(body) => S::leave_body(body, cx),
+        Live::Future(future) => S::abandon_future(future, cx),
+        Live::Body(body) => S::abandon_body(body, cx),
         Live::Over => Ok(()),
     }
 }

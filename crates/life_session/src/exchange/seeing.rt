@@ -9,22 +9,18 @@ use life_core::{Fields, Got, Octets};
 use life_script::Seen;
 use std::alloc::Global;
 
-/// What is seen of a frame. The one error is want of memory.
+/// What is seen of a frame.
 pub fn seen_in(alloc: Global, frame: Frame<Bytes>) -> Got<Seen>
     ensures { IfOk result (λ seen. (s : SeenView) → Shows s frame → seen ≡ s) }
 {
     if let Some(map) = frame.trailers_ref() {
-        return match Fields::of(alloc, map) {
-            Ok(fields) => Ok(Seen::Trailers(fields)),
-            Err(no_memory) => Err(no_memory),
-        };
+        let fields = Fields::of(alloc, map)?;
+        return Ok(Seen::Trailers(fields));
     }
     let octets = match frame.into_data() {
         Ok(bytes) => Octets::copy(alloc, bytes.as_slice()),
         Err(_) => Octets::copy(alloc, &[]),
     };
-    match octets {
-        Ok(octets) => Ok(Seen::Chunk(octets)),
-        Err(no_memory) => Err(no_memory),
-    }
+    let octets = octets?;
+    Ok(Seen::Chunk(octets))
 }

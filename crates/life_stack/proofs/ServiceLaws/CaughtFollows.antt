@@ -3,10 +3,10 @@ use Rattle.std.proofs.Common.{◌≡◌, ℕ, suc, List, [], ◌∷◌, ◌++◌
 use Rattle.std.proofs.lemmas.Bool.{le-leb}
 use Rattle.std.specs.Prelude.{codes, slice_get, ⊤}
 use Rattle.std.specs.declared.convert.Infallible.{Infallible}
-use Rattle.life_core.specs.Full.{FullFrames, LeavesNothing, full_ends}
+use Rattle.life_core.specs.Full.{FullFrames, NothingToAbandon, full_ends}
 use Rattle.life_core.specs.History.{BodyFollows, FutureFollows, FutureHistory, Adds, Matches, ServiceFollows, Where, Waiting, Answered, left_at}
-use Rattle.life_core.specs.Limited.{LimitedLeaves}
-use Rattle.life_core.specs.Meaning.{Leaves, Polls}
+use Rattle.life_core.specs.Limited.{LimitedAbandons}
+use Rattle.life_core.specs.Calls.{Abandons, Polls}
 use Rattle.life_core.specs.Message.{IsText}
 use Rattle.life_core.specs.OneChunk.{FullStands, TellsChunk}
 use Rattle.life_core.specs.declared.body.limited.Limited.{Limited}
@@ -15,33 +15,33 @@ use Rattle.life_core.specs.declared.message.Request.{Request}
 use Rattle.life_core.specs.declared.message.Response.{Response}
 use Rattle.life_core.specs.declared.message.ResponseHead.{ResponseHead}
 use Rattle.life_core.proofs.Bodies.{box_follows, full_never_faults}
-use Rattle.life_limit.specs.Stands.{with_panic, caught}
+use Rattle.life_limit.specs.History.{with_panic, caught}
 use Rattle.life_limit.proofs.CatchFollows.{catch_follows, catch_keeps, catch_serves, panic_handler_follows}
-use Rattle.life_script.specs.ScriptView.{ScriptView}
+use Rattle.life_script.specs.Scenario.{ScriptView}
 use Rattle.life_script.specs.declared.scenario.CallItem.{CallItem}
 use Rattle.life_script.specs.declared.scenario.CallItem.TheVariants as call_item
 use Rattle.life_script.specs.declared.scenario.PollItem.{PollItem}
 use Rattle.life_script.specs.declared.scenario.Then.{Then}
 use Rattle.life_script.specs.declared.scenario.Then.TheVariants as then_
-use Rattle.life_stack.specs.Service.Stands.{BodyPlan, Head, Heads, ScriptBodyStands, body_plan, call_hands, call_tells, item_tells, script_body_history}
-use Rattle.life_stack.specs.Service.Caught.{CaughtStands, caught_leaves, decided_says, item_says, CaughtFuture, CaughtFutureStands, CaughtServes, caught_calls, caught_ends, caught_frames, caught_future_leaves, caught_history, caught_polls}
+use Rattle.life_stack.specs.Service.History.{BodyPlan, Head, Heads, ScriptBodyStands, body_plan, call_hands, call_gives, item_gives, script_body_history}
+use Rattle.life_stack.specs.Service.Caught.{CaughtStands, caught_abandons, decided_says, item_says, CaughtFuture, CaughtFutureStands, CaughtServes, caught_calls, caught_ends, caught_frames, caught_future_abandons, caught_history, caught_polls}
 use Rattle.life_stack.specs.Table.Decision.{panic_reply, text_reply, called_by}
 use Rattle.life_stack.specs.Table.Handed.{decided_events, panic_at, panic_event}
-use Rattle.life_stack.specs.Service.Script.{AsksFor, IsDefaultExt, ScriptFrames, ScriptLeaves, item_frame, tells_end}
+use Rattle.life_stack.specs.Service.Script.{AsksFor, IsDefaultExt, ScriptFrames, ScriptAbandons, item_frame, tells_end}
 use Rattle.life_stack.specs.declared.service.ext.Ext.{Ext}
 use Rattle.life_stack.specs.declared.service.body.ScriptBody.{ScriptBody}
 use Rattle.life_stack.proofs.ServiceLaws.Handing.{no_item, script_body_follows}
 use Rattle.life_stack.proofs.ServiceLaws.ScriptFollows.{script_follows, script_keeps, script_serves}
 
 -- one history in place of another that says the same
-module _ {H P F B X E : Type 0} (polls : Polls F (Result (Response B X) E)) (leaves : Leaves F) (Tells : H → ResponseHead X → Type 0) (Stands : F → Where → Type 0) (Bodies : P → B → List ℕ → Type 0) (h g : FutureHistory H P E)
+module _ {H P F B X E : Type 0} (polls : Polls F (Result (Response B X) E)) (abandons : Abandons F) (Tells : H → ResponseHead X → Type 0) (Stands : F → Where → Type 0) (Bodies : P → B → List ℕ → Type 0) (h g : FutureHistory H P E)
     (says : (past : List ℕ) (t : ℕ) → h.says past t ≡ g.says past t) (events : (past : List ℕ) (t : ℕ) → h.events past t ≡ g.events past t) (left : (past : List ℕ) (t : ℕ) → h.left past t ≡ g.left past t)
-    (inner : FutureFollows polls leaves Tells Stands Bodies h) where
+    (inner : FutureFollows polls abandons Tells Stands Bodies h) where
   left_is : (w : Where) (t : ℕ) → left_at h w t ≡ left_at g w t
   left_is (Waiting past) t = left past t
   left_is Answered t = refl
 
-  pub follows_as : FutureFollows polls leaves Tells Stands Bodies g
+  pub follows_as : FutureFollows polls abandons Tells Stands Bodies g
   follows_as = record {
     poll = λ past f was m a new now s p. let i = inner.poll past f was m a new now s p in record {
       answer = subst (λ x. Matches Tells Bodies x a) (says past m.now) i.answer;
@@ -54,8 +54,8 @@ module _ {H P F B X E : Type 0} (polls : Polls F (Result (Response B X) E)) (lea
 
 -- ITS BODIES.
 
-pub caught_body : BodyFollows caught_frames caught_leaves caught_ends CaughtStands script_body_history
-caught_body = box_follows ScriptFrames ScriptLeaves tells_end ScriptBodyStands (FullFrames {E = Infallible}) LeavesNothing full_ends (FullStands script_body_history) script_body_history script_body_follows (full_never_faults script_body_history)
+pub caught_body : BodyFollows caught_frames caught_abandons caught_ends CaughtStands script_body_history
+caught_body = box_follows ScriptFrames ScriptAbandons tells_end ScriptBodyStands (FullFrames {E = Infallible}) NothingToAbandon full_ends (FullStands script_body_history) script_body_history script_body_follows (full_never_faults script_body_history)
 
 -- the plan of one chunk
 pub one_text : (status : ℕ) (text : List ℕ) → TellsChunk text (script_body_history (body_plan (text_reply status text)))
@@ -77,44 +77,44 @@ plain status text head t = (record { status_is = t.status_is; headers_are = t.he
 abbrev panic_head : Head
 panic_head = (panic_reply.status, panic_reply.headers)
 
-item_caught : (o : Option PollItem) → caught panic_head (body_plan panic_reply) (item_tells o) ≡ item_says o
+item_caught : (o : Option PollItem) → caught panic_head (body_plan panic_reply) (item_gives o) ≡ item_says o
 item_caught None = refl
 item_caught (Some item) = go item.then
   where
-    go : (t : Then) → caught panic_head (body_plan panic_reply) (item_tells (Some (record item { then = t }))) ≡ item_says (Some (record item { then = t }))
+    go : (t : Then) → caught panic_head (body_plan panic_reply) (item_gives (Some (record item { then = t }))) ≡ item_says (Some (record item { then = t }))
     go then_.Pending = refl
     go (then_.Panic text) = refl
     go (then_.Fail error) = refl
     go (then_.Respond reply) = refl
 
-item_fired : (o : Option PollItem) (es : List Event) → with_panic {H = Head} {P = BodyPlan} {X = List ℕ} (λ text. panic_event text ∷ []) (item_tells o) es ≡ es ++ panic_at o
+item_fired : (o : Option PollItem) (es : List Event) → with_panic {H = Head} {P = BodyPlan} {X = List ℕ} (λ text. panic_event text ∷ []) (item_gives o) es ≡ es ++ panic_at o
 item_fired None es = sym (append-nil es)
 item_fired (Some item) es = go item.then
   where
-    go : (t : Then) → with_panic {H = Head} {P = BodyPlan} {X = List ℕ} (λ text. panic_event text ∷ []) (item_tells (Some (record item { then = t }))) es ≡ es ++ panic_at (Some (record item { then = t }))
+    go : (t : Then) → with_panic {H = Head} {P = BodyPlan} {X = List ℕ} (λ text. panic_event text ∷ []) (item_gives (Some (record item { then = t }))) es ≡ es ++ panic_at (Some (record item { then = t }))
     go then_.Pending = sym (append-nil es)
     go (then_.Panic text) = refl
     go (then_.Fail error) = sym (append-nil es)
     go (then_.Respond reply) = sym (append-nil es)
 
-pub caught_follows : (left : ℕ) (script : ScriptView) → FutureFollows caught_polls caught_future_leaves Heads (CaughtFutureStands left script) CaughtStands (caught_history (called_by script.call) left script)
+pub caught_follows : (left : ℕ) (script : ScriptView) → FutureFollows caught_polls caught_future_abandons Heads (CaughtFutureStands left script) CaughtStands (caught_history (called_by script.call) left script)
 caught_follows left script = follows_as _ _ _ _ _ _ _ (λ past t. says script.call past) (λ past t. events script.call past) (λ past t. refl)
     (catch_follows _ _ _ (λ _. ⊤) Heads panic_head (body_plan panic_reply) (λ text. panic_event text ∷ []) _ _ _ script_body_history _
     (panic_handler_follows IsDefaultExt Heads panic_head (plain 500 (codes "Service panicked")) script_body_history (body_plan panic_reply) (one_text 500 (codes "Service panicked")))
     (script_follows left script))
   where
-    says : (call : CallItem) (past : List ℕ) → caught panic_head (body_plan panic_reply) (call_tells call (slice_get script.polls (length past))) ≡ decided_says (called_by call) script.polls (length past)
+    says : (call : CallItem) (past : List ℕ) → caught panic_head (body_plan panic_reply) (call_gives call (slice_get script.polls (length past))) ≡ decided_says (called_by call) script.polls (length past)
     says call_item.Serve past = item_caught (slice_get script.polls (length past))
     says (call_item.Panic text) past = refl
 
-    events : (call : CallItem) (past : List ℕ) → with_panic (λ text. panic_event text ∷ []) (call_tells call (slice_get script.polls (length past))) (call_hands call left script (length past)) ≡ decided_events (called_by call) left script (length past)
+    events : (call : CallItem) (past : List ℕ) → with_panic (λ text. panic_event text ∷ []) (call_gives call (slice_get script.polls (length past))) (call_hands call left script (length past)) ≡ decided_events (called_by call) left script (length past)
     events call_item.Serve past = item_fired (slice_get script.polls (length past)) (call_hands call_item.Serve left script (length past))
     events (call_item.Panic text) past = refl
 
 -- THE SERVICE.
 
 pub caught_serves : (left : ℕ) (script : ScriptView) (i : ℕ) → ServiceFollows caught_calls (AsksFor left script i) (CaughtServes script i) (λ t. CaughtFutureStands left script) []
-caught_serves left script i = catch_serves _ (LimitedLeaves ScriptLeaves) _ (λ _. ⊤) _ _ _ (script_serves left script i)
+caught_serves left script i = catch_serves _ (LimitedAbandons ScriptAbandons) _ (λ _. ⊤) _ _ _ (script_serves left script i)
 
 pub caught_keeps : (script : ScriptView) (i : ℕ) → ServiceFollows {R = Request (Limited ScriptBody) Ext} caught_calls (λ r. ⊤) (CaughtServes script i) (λ t (f : CaughtFuture) (w : Where). ⊤) []
-caught_keeps script i = catch_keeps _ (LimitedLeaves ScriptLeaves) (λ _. ⊤) _ _ _ (script_keeps script i)
+caught_keeps script i = catch_keeps _ (LimitedAbandons ScriptAbandons) (λ _. ⊤) _ _ _ (script_keeps script i)

@@ -27,10 +27,10 @@ use Rattle.life_script.specs.declared.answer.Seen.TheVariants as seen
 use Rattle.life_script.specs.declared.scenario.BodyItem.{BodyItem}
 use Rattle.life_script.specs.declared.scenario.BodyItem.TheVariants as body_item
 use Rattle.life_script.specs.declared.scenario.PollItem.{PollItem}
-use Rattle.life_stack.specs.Service.Stands.{BodyPlan, ScriptBodyStands, script_body_history}
+use Rattle.life_stack.specs.Service.History.{BodyPlan, ScriptBodyStands, script_body_history}
 use Rattle.life_stack.specs.Table.Handed.{asked_before, asks_of, handed_at, handed_by, handed_from, room_before, room_past}
 use Rattle.life_stack.specs.Table.Request.{shown_headers}
-use Rattle.life_stack.specs.Service.Script.{Asked, ScriptFrames, ScriptLeaves, asked_of, item_frame, items_of, tells_end}
+use Rattle.life_stack.specs.Service.Script.{Asked, ScriptFrames, ScriptAbandons, asked_of, item_frame, items_of, tells_end}
 use Rattle.life_stack.specs.Service.Handing.{IsHandedAs}
 use Rattle.life_stack.specs.declared.service.body.ScriptBody.{ScriptBody}
 
@@ -61,7 +61,7 @@ no_item (suc n) = refl
 
 -- A SCRIPTED BODY.
 
-pub script_body_follows : BodyFollows ScriptFrames ScriptLeaves tells_end ScriptBodyStands script_body_history
+pub script_body_follows : BodyFollows ScriptFrames ScriptAbandons tells_end ScriptBodyStands script_body_history
 script_body_follows = record {
   tells = λ p b past s. ap (λ x. x && nat_le (length (items_of b)) 0) s.tells ∙ ap (λ l. p.tells && nat_le (length l) 0) s.items ∙ ap (λ e. p.tells && e) (used_up (length past) p.items);
   frame = λ p past b was m a new now l s f. record {
@@ -161,7 +161,7 @@ pub asked_one : (old new : Limited ScriptBody) (was mid now : Recorded) (m : Mom
     LimitedFrames ScriptFrames old was m (Ok a) new mid → IsHandedAs a got → Notes mid (event.Handed got) (Ok tt) now → Asked 1 old was new now
 asked_one old new was mid now m a got f h n =
     let plan : BodyPlan = record { items = asked_of old; tells = (body_in old).tells } in
-    let i = (limited_follows ScriptFrames ScriptLeaves tells_end ScriptBodyStands script_body_history script_body_follows).frame (room_in old, plan) [] old was m a new mid tt
+    let i = (limited_follows ScriptFrames ScriptAbandons tells_end ScriptBodyStands script_body_history script_body_follows).frame (room_in old, plan) [] old was m a new mid tt
     (record { room_is = refl; inner = record { items = refl; tells = refl } }) f in
     let is : got ≡ handed_by (room_in old) (slice_get (asked_of old) 0) = handed_is (room_in old) (slice_get (asked_of old) 0) got (subst (λ x. IsHandedAs x got) i.answer h) in
     record {

@@ -10,18 +10,18 @@ use Rattle.life_core.specs.declared.message.Request.{Request}
 use Rattle.life_core.specs.declared.poll.Poll.TheVariants.{Ready, Pending}
 use Rattle.life_core.proofs.Growth.{adds_none}
 use Rattle.life_head.specs.declared.request_id.number.Number.{Number}
-use Rattle.life_script.specs.ScriptView.{ScriptView}
+use Rattle.life_script.specs.Scenario.{ScriptView}
 use Rattle.life_script.specs.Valid.{ReplyFits, ScriptFits}
-use Rattle.life_script.specs.Views.{ReplyView}
+use Rattle.life_script.specs.Reply.{ReplyView}
 use Rattle.life_script.specs.declared.checks.TheConstants.{MAX_HEADER_VALUES}
 use Rattle.life_script.specs.declared.scenario.CallItem.{CallItem}
 use Rattle.life_script.specs.declared.scenario.CallItem.TheVariants as call_item
 use Rattle.life_script.specs.declared.scenario.PollItem.{PollItem}
 use Rattle.life_script.specs.declared.scenario.Then.{Then}
 use Rattle.life_script.specs.declared.scenario.Then.TheVariants as then_
-use Rattle.life_stack.specs.Service.Stands.{Heads, ScriptStands, ScriptBodyStands, ServesOn, StandsBy, call_hands, call_tells, item_tells, script_history, then_tells}
+use Rattle.life_stack.specs.Service.History.{Heads, ScriptStands, ScriptBodyStands, ServesOn, StandsBy, call_hands, call_gives, item_gives, script_history, then_gives}
 use Rattle.life_stack.specs.Table.Handed.{asked_before, asks_of, handed_from, room_before}
-use Rattle.life_stack.specs.Service.Script.{SharedScripts, AsksFor, Answers, Asked, Finds, PollsBy, Responds, ScriptAnswer, ScriptCalls, ScriptLeaves, ScriptPolls, asked_of, panic_for, panic_of, polls_for, polls_of, script_for}
+use Rattle.life_stack.specs.Service.Script.{SharedScripts, AsksFor, Answers, Asked, Finds, PollsBy, Responds, ScriptAnswer, ScriptCalls, ScriptAbandons, ScriptPolls, asked_of, panic_for, panic_of, polls_for, polls_of, script_for}
 use Rattle.life_stack.specs.declared.service.ext.Ext.{Ext}
 use Rattle.life_stack.specs.declared.service.body.ScriptBody.{ScriptBody}
 use Rattle.life_stack.specs.declared.service.future.ScriptFuture.{ScriptFuture}
@@ -34,10 +34,10 @@ IsShort (then_.Panic text) = Unit
 IsShort (then_.Fail error) = Unit
 IsShort (then_.Respond reply) = length reply.headers ≤ MAX_HEADER_VALUES
 
-then_matches : (t : Then) (a : ScriptAnswer) → IsShort t → Answers t a → Matches Heads ScriptBodyStands (then_tells t) a
+then_matches : (t : Then) (a : ScriptAnswer) → IsShort t → Answers t a → Matches Heads ScriptBodyStands (then_gives t) a
 then_matches then_.Pending a short r = subst (λ x. Matches Heads ScriptBodyStands Waits x) (sym r) tt
-then_matches (then_.Panic text) a short r = subst (λ x. Matches Heads ScriptBodyStands (then_tells (then_.Panic text)) x) (sym r) refl
-then_matches (then_.Fail error) a short r = subst (λ x. Matches Heads ScriptBodyStands (then_tells (then_.Fail error)) x) (sym r) refl
+then_matches (then_.Panic text) a short r = subst (λ x. Matches Heads ScriptBodyStands (then_gives (then_.Panic text)) x) (sym r) refl
+then_matches (then_.Fail error) a short r = subst (λ x. Matches Heads ScriptBodyStands (then_gives (then_.Fail error)) x) (sym r) refl
 then_matches (then_.Respond reply) (Ready (Ok s)) short r =
     ((record { status_is = (r.head).status_is; headers_are = (r.head).headers_are }, short), record { items = (r.body).items; tells = (r.body).tells })
 then_matches (then_.Respond reply) (Ready (Err e)) short r = absurd r
@@ -63,7 +63,7 @@ short_item script k None fits is = tt
 short_item script k (Some item) fits is = short_then script.polls k item fits.replies is
 
 module _ (f : ScriptFuture) (was : Recorded) (a : ScriptAnswer) (new : ScriptFuture) (now : Recorded) where
-  tells : (o : Option PollItem) → IsShortItem o → Responds o f was a new now → Matches Heads ScriptBodyStands (item_tells o) a
+  tells : (o : Option PollItem) → IsShortItem o → Responds o f was a new now → Matches Heads ScriptBodyStands (item_gives o) a
   tells None short r = subst (λ x. Matches Heads ScriptBodyStands Waits x) (sym r.0) tt
   tells (Some item) short r = then_matches item.then a short r.0
 
@@ -95,7 +95,7 @@ stays call left script past t new (Ready a) e = tt
 -- one poll, by what was said of the call
 abbrev Steps : CallItem → ℕ → ScriptView → List ℕ → Recorded → ℕ → ScriptAnswer → ScriptFuture → Recorded → Type 0
 Steps call left script past was t a new now =
-    Matches Heads ScriptBodyStands (call_tells call (slice_get script.polls (length past))) a
+    Matches Heads ScriptBodyStands (call_gives call (slice_get script.polls (length past))) a
     × Adds was now (call_hands call left script (length past))
     × StandsBy call left script new (where_after past t a)
 
@@ -120,7 +120,7 @@ quiet : (w : Where) (t left : ℕ) (script : ScriptView) → left_at (script_his
 quiet (Waiting past) t left script = refl
 quiet Answered t left script = refl
 
-pub script_follows : (left : ℕ) (script : ScriptView) → FutureFollows ScriptPolls ScriptLeaves Heads (ScriptStands left script) ScriptBodyStands (script_history left script)
+pub script_follows : (left : ℕ) (script : ScriptView) → FutureFollows ScriptPolls ScriptAbandons Heads (ScriptStands left script) ScriptBodyStands (script_history left script)
 script_follows left script = record {
   poll = λ past f was m a new now s p.
       let i = by_call script.call left script past f was m.now a new now s (subst (λ o. PollsBy o f was a new now) s.0 p) in

@@ -2,9 +2,9 @@
 use Rattle.std.proofs.Common.{◌≡◌, ℕ, List, [], length, Bool, true, false, Some, Ok, refl, ap, subst, arith}
 use Rattle.std.proofs.lemmas.Bool.{le-leb}
 use Rattle.std.specs.Prelude.{codes, ⊤}
-use Rattle.life_core.specs.Boxed.{IsEmptyBox}
+use Rattle.life_core.specs.UnsyncBoxBody.{IsEmptyBox}
 use Rattle.life_core.specs.History.{BodyFollows, FutureFollows, FutureHistory, Adds, ServiceFollows, Where, answers_instead, records_unless}
-use Rattle.life_core.specs.Limited.{LimitedLeaves}
+use Rattle.life_core.specs.Limited.{LimitedAbandons}
 use Rattle.life_core.specs.Message.{IsBare}
 use Rattle.life_core.specs.Moment.{Moment}
 use Rattle.life_core.specs.OneChunk.{TellsEnd}
@@ -16,32 +16,32 @@ use Rattle.life_core.specs.declared.message.ResponseHead.{ResponseHead}
 use Rattle.life_core.proofs.Bodies.{full_never_faults}
 use Rattle.life_core.proofs.Growth.{adds_none}
 use Rattle.life_drop.specs.Note.{noting}
-use Rattle.life_drop.specs.Stands.{DropStands}
+use Rattle.life_drop.specs.History.{DropStands}
 use Rattle.life_drop.proofs.DropFollows.{drop_follows, drop_body_follows, drop_serves}
 use Rattle.life_drop.proofs.NoteFollows.{note_records, note_future, note_start, note_body}
 use Rattle.life_head.specs.Ids.{NumberMakes, x_request_id_name}
 use Rattle.life_head.specs.declared.request_id.propagating.PropagateRequestIdResponseFuture.{PropagateRequestIdResponseFuture}
 use Rattle.life_head.proofs.RequestIdFollows.{propagate_follows, propagate_keeps, propagate_serves, set_serves}
 use Rattle.life_gate.specs.Required.{is_refused}
-use Rattle.life_gate.specs.Stands.{Judges}
+use Rattle.life_gate.specs.History.{Judges}
 use Rattle.life_gate.proofs.GateFollows.{gate_follows, gate_keeps, gate_serves, required_judges}
 use Rattle.life_limit.specs.declared.limit.body.ResponseBody.TheVariants.{PayloadTooLarge, Body}
 use Rattle.life_limit.proofs.LimitFollows.{limit_body_follows, limit_follows, limit_keeps, limit_serves}
-use Rattle.life_script.specs.ScriptView.{ScriptView}
+use Rattle.life_script.specs.Scenario.{ScriptView}
 use Rattle.life_script.specs.Valid.{ScriptFits}
 use Rattle.life_script.specs.declared.scenario.CallItem.{CallItem}
 use Rattle.life_script.specs.declared.scenario.Limits.{Limits}
-use Rattle.life_time.specs.DeadlineBody.{DeadlineBodyLeaves, DeadlineFrames, deadline_ends}
-use Rattle.life_time.specs.Stands.{DeadlineBodyStands, DeadlineStands, TimeoutStands}
+use Rattle.life_time.specs.DeadlineBody.{DeadlineBodyAbandons, DeadlineFrames, deadline_ends}
+use Rattle.life_time.specs.History.{DeadlineBodyStands, DeadlineStands, TimeoutStands}
 use Rattle.life_time.proofs.DeadlineFollows.{deadline_follows, deadline_body_follows, deadline_serves}
 use Rattle.life_time.proofs.TimeoutFollows.{timeout_follows, timeout_serves}
-use Rattle.life_stack.specs.Stack.Driven.{AsksGate, BodyStands, FutureStands, InnerBody, InnerBodyStands, InnerFuture, InnerServes, InnerStands, IsDefaultInner, StackStands, body_history, drive_body_leaves, drive_calls, drive_ends, drive_frames, drive_leaves, drive_polls, forbidden_head, future_history, gate_validates, inner_body_leaves, inner_calls, inner_ends, inner_frames, inner_leaves, inner_polls, named, service_history, timed_body_history}
-use Rattle.life_stack.specs.Service.Stands.{BodyPlan, Head, Heads, TellsHead, body_plan, script_body_history}
-use Rattle.life_stack.specs.Service.Caught.{Caught, CaughtStands, caught_leaves, decided_says, caught_history}
+use Rattle.life_stack.specs.Stack.Driven.{AsksGate, BodyStands, FutureStands, InnerBody, InnerBodyStands, InnerFuture, InnerServes, InnerStands, IsDefaultInner, StackStands, body_history, drive_body_abandons, drive_calls, drive_ends, drive_frames, drive_abandons, drive_polls, forbidden_head, future_history, gate_validates, inner_body_abandons, inner_calls, inner_ends, inner_frames, inner_abandons, inner_polls, named, service_history, timed_body_history}
+use Rattle.life_stack.specs.Service.History.{BodyPlan, Head, Heads, IsHead, body_plan, script_body_history}
+use Rattle.life_stack.specs.Service.Caught.{Caught, CaughtStands, caught_abandons, decided_says, caught_history}
 use Rattle.life_stack.specs.Table.Decision.{bare_reply, decided, forbidden_reply, is_shut, is_too_large, too_large_reply, called_by}
 use Rattle.life_stack.specs.Table.Handed.{decided_events, room}
 use Rattle.life_stack.specs.Table.Request.{Numbered, ident}
-use Rattle.life_stack.specs.Service.Script.{IsDefaultExt, IsRequestOf, ScriptLeaves, ext_id, ext_number, item_frame, with_id}
+use Rattle.life_stack.specs.Service.Script.{IsDefaultExt, IsRequestOf, ScriptAbandons, ext_id, ext_number, item_frame, with_id}
 use Rattle.life_stack.specs.Table.Story.{due_reply}
 use Rattle.life_stack.specs.declared.service.ext.Ext.{Ext}
 use Rattle.life_stack.specs.declared.service.body.ScriptBody.{ScriptBody}
@@ -51,10 +51,10 @@ use Rattle.life_stack.proofs.ServiceLaws.CaughtFollows.{caught_body, caught_foll
 
 -- BODIES.
 
-inner_body : BodyFollows inner_frames inner_body_leaves inner_ends InnerBodyStands script_body_history
+inner_body : BodyFollows inner_frames inner_body_abandons inner_ends InnerBodyStands script_body_history
 inner_body = limit_body_follows _ _ _ _ script_body_history caught_body (full_never_faults script_body_history)
 
-timed_body : (limits : Limits) → BodyFollows (DeadlineFrames inner_frames) (DeadlineBodyLeaves inner_body_leaves) (deadline_ends inner_ends) (DeadlineBodyStands limits.body_deadline InnerBodyStands) (timed_body_history limits.body_deadline)
+timed_body : (limits : Limits) → BodyFollows (DeadlineFrames inner_frames) (DeadlineBodyAbandons inner_body_abandons) (deadline_ends inner_ends) (DeadlineBodyStands limits.body_deadline InnerBodyStands) (timed_body_history limits.body_deadline)
 timed_body limits = deadline_body_follows _ _ _ _ _ limits.body_deadline inner_body
 
 no_items : (status : ℕ) → TellsEnd (script_body_history (body_plan (bare_reply status)))
@@ -75,7 +75,7 @@ default limits (PayloadTooLarge b) d = absurd d
 -- HEADS.
 
 -- a head without headers
-bare : (status : ℕ) (head : ResponseHead Ext) → IsBare IsDefaultExt status head → TellsHead (status, []) head
+bare : (status : ℕ) (head : ResponseHead Ext) → IsBare IsDefaultExt status head → IsHead (status, []) head
 bare status head b = record { status_is = b.status_is; headers_are = b.no_headers }
 
 -- THE LAYERS THAT MAY ANSWER in the service's place.
@@ -110,64 +110,64 @@ gate_judges : (limits : Limits) → Judges {B = Limited ScriptBody} gate_validat
     Heads CaughtStands forbidden_head (body_plan forbidden_reply)
 gate_judges limits = required_judges IsEmptyBox IsDefaultExt limits.gate_name limits.gate_value Heads CaughtStands forbidden_head (body_plan forbidden_reply) refused_head (empty_box 403)
 
-inner_follows : (limits : Limits) (script : Numbered) → FutureFollows inner_polls inner_leaves Heads (InnerStands limits script) InnerBodyStands (service_history limits script)
-inner_follows limits script =
-    let large = is_too_large limits script.script in let shut = is_shut limits script in let left = room limits script.script in let call = script.script.call in
-    follows_as _ _ _ _ _ (guarded_history large shut call left script.script) _ (guarded_says large shut call left script.script) (guarded_events large shut call left script.script) (guarded_left large shut call left script.script)
+inner_follows : (limits : Limits) (request : Numbered) → FutureFollows inner_polls inner_abandons Heads (InnerStands limits request) InnerBodyStands (service_history limits request)
+inner_follows limits request =
+    let large = is_too_large limits request.script in let shut = is_shut limits request in let left = room limits request.script in let call = request.script.call in
+    follows_as _ _ _ _ _ (guarded_history large shut call left request.script) _ (guarded_says large shut call left request.script) (guarded_events large shut call left request.script) (guarded_left large shut call left request.script)
     (limit_follows _ _ IsDefaultExt Heads large_head (plain 413 (codes "length limit exceeded")) _ _ script_body_history (body_plan too_large_reply) (one_text 413 (codes "length limit exceeded")) _
-    (gate_follows _ _ _ caught_leaves _ Heads _ _ script_body_history forbidden_head (body_plan forbidden_reply) _ (λ t. refl)
-    (caught_follows left script.script) caught_body shut) large)
+    (gate_follows _ _ _ caught_abandons _ Heads _ _ script_body_history forbidden_head (body_plan forbidden_reply) _ (λ t. refl)
+    (caught_follows left request.script) caught_body shut) large)
 
 no_events : (large shut : Bool) → records_unless large (records_unless shut []) ≡ []
 no_events true shut = refl
 no_events false true = refl
 no_events false false = refl
 
--- to give up a request's body records nothing
-quiet : (body : ScriptBody) (was : Recorded) (m : Moment) (u : Unit) (now : Recorded) → ScriptLeaves body was m (Ok u) now → Adds was now []
+-- to abandon a request's body records nothing
+quiet : (body : ScriptBody) (was : Recorded) (m : Moment) (u : Unit) (now : Recorded) → ScriptAbandons body was m (Ok u) now → Adds was now []
 quiet body was m u now d = adds_none was now d.1
 
-quiet_within : (body : Limited ScriptBody) (was : Recorded) (m : Moment) (u : Unit) (now : Recorded) → LimitedLeaves ScriptLeaves body was m (Ok u) now → Adds was now []
+quiet_within : (body : Limited ScriptBody) (was : Recorded) (m : Moment) (u : Unit) (now : Recorded) → LimitedAbandons ScriptAbandons body was m (Ok u) now → Adds was now []
 quiet_within body was m u now d = adds_none was now d.1
 
-inner_serves : (limits : Limits) (script : Numbered) → ServiceFollows inner_calls (AsksInner limits script) (InnerServes limits script) (λ t. InnerStands limits script) []
-inner_serves limits script =
-    let large = is_too_large limits script.script in let shut = is_shut limits script in
-    subst (λ es. ServiceFollows inner_calls (AsksInner limits script) (InnerServes limits script) (λ t. InnerStands limits script) es) (no_events large shut)
-    (limit_serves _ ScriptLeaves _ _ _ _ quiet
-    (gate_serves _ _ (LimitedLeaves ScriptLeaves) caught_leaves _ _ _ _ (AsksGate limits) _ Heads CaughtStands forbidden_head (body_plan forbidden_reply) quiet_within (gate_judges limits)
-    (caught_serves (room limits script.script) script.script script.number) shut) large limits.byte_limit)
+inner_serves : (limits : Limits) (request : Numbered) → ServiceFollows inner_calls (AsksInner limits request) (InnerServes limits request) (λ t. InnerStands limits request) []
+inner_serves limits request =
+    let large = is_too_large limits request.script in let shut = is_shut limits request in
+    subst (λ es. ServiceFollows inner_calls (AsksInner limits request) (InnerServes limits request) (λ t. InnerStands limits request) es) (no_events large shut)
+    (limit_serves _ ScriptAbandons _ _ _ _ quiet
+    (gate_serves _ _ (LimitedAbandons ScriptAbandons) caught_abandons _ _ _ _ (AsksGate limits) _ Heads CaughtStands forbidden_head (body_plan forbidden_reply) quiet_within (gate_judges limits)
+    (caught_serves (room limits request.script) request.script request.number) shut) large limits.byte_limit)
 
-inner_keeps : (limits : Limits) (script : Numbered) → ServiceFollows {R = Request ScriptBody Ext} inner_calls (λ r. ⊤) (InnerServes limits script) (λ t (f : InnerFuture) (w : Where). ⊤) []
-inner_keeps limits script = limit_keeps _ ScriptLeaves _ _ quiet
-    (gate_keeps _ _ (LimitedLeaves ScriptLeaves) caught_leaves _ _ (AsksGate limits) _ Heads CaughtStands forbidden_head (body_plan forbidden_reply) quiet_within (gate_judges limits)
-    (caught_keeps script.script script.number)) limits.byte_limit
+inner_keeps : (limits : Limits) (request : Numbered) → ServiceFollows {R = Request ScriptBody Ext} inner_calls (λ r. ⊤) (InnerServes limits request) (λ t (f : InnerFuture) (w : Where). ⊤) []
+inner_keeps limits request = limit_keeps _ ScriptAbandons _ _ quiet
+    (gate_keeps _ _ (LimitedAbandons ScriptAbandons) caught_abandons _ _ (AsksGate limits) _ Heads CaughtStands forbidden_head (body_plan forbidden_reply) quiet_within (gate_judges limits)
+    (caught_keeps request.script request.number)) limits.byte_limit
 
 -- THE STACK.
 
-pub future_follows : (limits : Limits) (script : Numbered) (t0 : ℕ) →
-    FutureFollows drive_polls drive_leaves TellsHead (FutureStands limits script t0) (BodyStands limits t0) (future_history limits script t0)
-future_follows limits script t0 = drop_follows _ _ _ _ _ _ _ _ _ _ _ _ _ _ (note_body TellsHead (λ h. h.0) (λ g head h. h.status_is) t0) _ (noting drop_kind.Future t0) _ note_records
+pub future_follows : (limits : Limits) (request : Numbered) (t0 : ℕ) →
+    FutureFollows drive_polls drive_abandons IsHead (FutureStands limits request t0) (BodyStands limits t0) (future_history limits request t0)
+future_follows limits request t0 = drop_follows _ _ _ _ _ _ _ _ _ _ _ _ _ _ (note_body IsHead (λ h. h.0) (λ g head h. h.status_is) t0) _ (noting drop_kind.Future t0) _ note_records
     (deadline_follows _ _ _ _ _ _ limits.body_deadline
     (timeout_follows _ _ _ _ _ (record { start = t0; length = limits.timeout }) limits.timeout_status (limits.timeout_status, []) (bare limits.timeout_status) _ _ _ (body_plan (due_reply limits)) (default limits)
-    (propagate_follows _ _ _ ext_id with_id x_request_id_name (Some (ident script)) Heads TellsHead (named (ident script)) (head_named (ident script)) _ _ _ (inner_follows limits script))))
+    (propagate_follows _ _ _ ext_id with_id x_request_id_name (Some (ident request)) Heads IsHead (named (ident request)) (head_named (ident request)) _ _ _ (inner_follows limits request))))
     (timed_body limits)
 
-pub body_follows : (limits : Limits) (t0 : ℕ) → BodyFollows drive_frames drive_body_leaves drive_ends (BodyStands limits t0) (body_history limits t0)
+pub body_follows : (limits : Limits) (t0 : ℕ) → BodyFollows drive_frames drive_body_abandons drive_ends (BodyStands limits t0) (body_history limits t0)
 body_follows limits t0 = drop_body_follows _ _ _ _ _ (λ (h : Head). noting (drop_kind.Body h.0) t0) _ _ note_records (timed_body limits)
 
-pub stack_follows : (limits : Limits) (script : Numbered) →
-    ServiceFollows {R = Request ScriptBody Ext} drive_calls (λ req. IsRequestOf script.script script.number req × ScriptFits script.script) (StackStands limits script) (FutureStands limits script) []
-stack_follows limits script = set_serves _ (NumberMakes ext_number) ext_id with_id ScriptLeaves _ _ _ _ (λ _. ⊤) (λ maker req made new k m. tt) x_request_id_name _ (request_named limits script)
+pub stack_follows : (limits : Limits) (request : Numbered) →
+    ServiceFollows {R = Request ScriptBody Ext} drive_calls (λ req. IsRequestOf request.script request.number req × ScriptFits request.script) (StackStands limits request) (FutureStands limits request) []
+stack_follows limits request = set_serves _ (NumberMakes ext_number) ext_id with_id ScriptAbandons _ _ _ _ (λ _. ⊤) (λ maker req made new k m. tt) x_request_id_name _ (request_named limits request)
     (drop_serves _ _ _ _ _ _ _ _ note_future _ _ note_start
     (deadline_serves _ _ _ _ _ (timeout_serves _ _ _ _ _
-    (propagate_serves _ ScriptLeaves _ _ _ _ (inner_serves limits script) x_request_id_name (Some (ident script))) limits.timeout limits.timeout_status) limits.body_deadline))
+    (propagate_serves _ ScriptAbandons _ _ _ _ (inner_serves limits request) x_request_id_name (Some (ident request))) limits.timeout limits.timeout_status) limits.body_deadline))
 
 -- whatever is asked, the stack stands for what it stood for
-pub stack_keeps : (limits : Limits) (script : Numbered) → ServiceFollows {R = Request ScriptBody Ext} drive_calls (λ r. ⊤) (StackStands limits script)
+pub stack_keeps : (limits : Limits) (request : Numbered) → ServiceFollows {R = Request ScriptBody Ext} drive_calls (λ r. ⊤) (StackStands limits request)
     (λ t0. DropStands (noting drop_kind.Future t0) t0 (DeadlineStands limits.body_deadline
     (TimeoutStands (record { start = t0; length = limits.timeout }) limits.timeout_status (λ (f : PropagateRequestIdResponseFuture InnerFuture) (w : Where). ⊤)))) []
-stack_keeps limits script = set_serves _ (NumberMakes ext_number) ext_id with_id ScriptLeaves (λ r. ⊤) _ _ _ (λ _. ⊤) (λ maker req made new k m. tt) x_request_id_name (λ r. ⊤) (λ maker req maker_new new k q t. tt)
+stack_keeps limits request = set_serves _ (NumberMakes ext_number) ext_id with_id ScriptAbandons (λ r. ⊤) _ _ _ (λ _. ⊤) (λ maker req made new k m. tt) x_request_id_name (λ r. ⊤) (λ maker req maker_new new k q t. tt)
     (drop_serves _ _ _ _ _ _ _ _ note_future _ _ note_start
     (deadline_serves _ _ _ _ _ (timeout_serves _ _ _ _ _
-    (propagate_keeps _ ScriptLeaves _ _ _ (inner_keeps limits script) x_request_id_name) limits.timeout limits.timeout_status) limits.body_deadline))
+    (propagate_keeps _ ScriptAbandons _ _ _ (inner_keeps limits request) x_request_id_name) limits.timeout limits.timeout_status) limits.body_deadline))

@@ -7,15 +7,15 @@ use Rattle.life_core.specs.Recorded.{Recorded}
 use Rattle.life_core.specs.declared.event.Event.{Event}
 use Rattle.life_core.specs.declared.message.Request.{Request}
 use Rattle.life_core.specs.declared.recorder.NoMemory.{NoMemory}
-use Rattle.life_drop.specs.Stands.{ended, unless_ended}
+use Rattle.life_drop.specs.History.{ended, unless_ended}
 use Rattle.life_script.specs.declared.scenario.Act.TheVariants as act
 use Rattle.life_script.specs.Valid.{ScriptFits}
 use Rattle.life_session.specs.Acts.{Own}
-use Rattle.life_session.specs.Course.{Course, Fresh, Awaited, Streamed, Over, FollowsCourse, InTime, TellsCourse, given_up}
+use Rattle.life_session.specs.Course.{Course, Fresh, Awaited, Streamed, Over, FollowsCourse, InTime, ShowsCourse, abandoned}
 use Rattle.life_session.specs.Table.{KeepsTable}
 use Rattle.life_session.proofs.CourseLaws as course
 use Rattle.life_stack.specs.Stack.Course.{Key, StoryAfter}
-use Rattle.life_stack.specs.Stack.Driven.{DriveFuture, DriveStack, Plan, StackStands, drive_body_leaves, drive_calls, drive_ends, drive_frames, drive_leaves, drive_polls, future_history, timed_body_history}
+use Rattle.life_stack.specs.Stack.Driven.{DriveFuture, DriveStack, Plan, StackStands, drive_body_abandons, drive_calls, drive_ends, drive_frames, drive_abandons, drive_polls, future_history, timed_body_history}
 use Rattle.life_stack.specs.Stack.Keeping.{drive_histories, drive_places, drive_standing, drive_table}
 use Rattle.life_session.specs.Moments.{dropped_at}
 use Rattle.life_stack.specs.Table.Story.{answers, at_end, drops, drops_at, unless_dropped}
@@ -43,13 +43,13 @@ unless_none : (o : Option ℕ) → unless_dropped o [] ≡ []
 unless_none None = refl
 unless_none (Some d) = refl
 
-story_end : (k : Key) (acts : List Own) (c : Course Plan) (t : ℕ) → StoryAfter k acts c → at_end k.0 k.1 acts t ≡ given_up drive_histories k c t
+story_end : (k : Key) (acts : List Own) (c : Course Plan) (t : ℕ) → StoryAfter k acts c → at_end k.0 k.1 acts t ≡ abandoned drive_histories k c t
 story_end k acts Fresh t at = ap (λ c. unless_dropped (dropped_at acts) (drops_at c (answers k.0 k.1 acts) t)) at.uncalled ∙ unless_none (dropped_at acts)
 story_end k acts (Awaited t0 past) t at = ap (λ o. unless_dropped o (drops k.0 k.1 acts t)) at.undropped ∙ awaited_drops k.0 k.1 acts t0 past at t
 story_end k acts (Streamed t0 plan past) t at = ap (λ o. unless_dropped o (drops k.0 k.1 acts t)) at.undropped ∙ streamed_drops k.0 k.1 acts t0 plan past at t
 story_end k acts Over t at = gone_end k.0 k.1 acts at.t0 t at.called at.gone
 
-story_told : TellsCourse drive_histories drive_table StoryAfter
+story_told : ShowsCourse drive_histories drive_table StoryAfter
 story_told = record {
   first = λ k. record { uncalled = refl; no_ending = refl; kind = refl };
   turn = story_turn;
@@ -75,7 +75,7 @@ pub at_most_one : (x : Bool) (one : Event) → length (unless_ended x (one ∷ [
 at_most_one true one = omega (arith)
 at_most_one false one = omega (arith)
 
-drive_follows : FollowsCourse drive_calls drive_polls drive_leaves drive_frames drive_body_leaves drive_ends drive_histories drive_standing
+drive_follows : FollowsCourse drive_calls drive_polls drive_abandons drive_frames drive_body_abandons drive_ends drive_histories drive_standing
 drive_follows = record {
   service = λ k. record {
     call = λ s req was m f new now asks serves c. (stack_follows k.0 k.1).call s req was m f new now (asks, fits_of k s serves) serves c;
@@ -89,5 +89,5 @@ drive_follows = record {
   body_once = λ k t0 plan past t. at_most_one (ended (timed_body_history k.0.body_deadline plan.1) past) _;
 }
 
-pub drive_keeps : KeepsTable drive_calls drive_polls drive_leaves drive_frames drive_body_leaves drive_ends drive_places drive_table
-drive_keeps = course.keeps drive_calls drive_polls drive_leaves drive_frames drive_body_leaves drive_ends drive_histories drive_standing drive_follows drive_table StoryAfter story_told
+pub drive_keeps : KeepsTable drive_calls drive_polls drive_abandons drive_frames drive_body_abandons drive_ends drive_places drive_table
+drive_keeps = course.keeps drive_calls drive_polls drive_abandons drive_frames drive_body_abandons drive_ends drive_histories drive_standing drive_follows drive_table StoryAfter story_told

@@ -9,22 +9,22 @@ use Rattle.life_core.specs.declared.message.Request.{Request}
 use Rattle.life_core.specs.declared.message.ResponseHead.{ResponseHead}
 use Rattle.life_head.specs.Ids.{NumberMakes, id_of, id_of_number, marked, marked_by, or_else, tagged, tagged_by, x_request_id_name}
 use Rattle.life_head.specs.Setting.{Tags}
-use Rattle.life_head.specs.Stands.{AsksWith, first_of}
+use Rattle.life_head.specs.History.{AsksWith, first_of}
 use Rattle.life_head.specs.declared.request_id.id.RequestId.{RequestId}
 use Rattle.life_head.specs.declared.request_id.number.ByNumber.{ByNumber}
 use Rattle.life_head.proofs.RequestIdFollows.{tagged_is, tagged_others, tagged_value}
 use Rattle.life_gate.specs.Required.{is_refused, matches_first}
-use Rattle.life_gate.specs.Stands.{AsksPast}
+use Rattle.life_gate.specs.History.{AsksPast}
 use Rattle.life_limit.specs.Length.{length_told}
 use Rattle.life_limit.specs.Limit.{is_above, room_of}
-use Rattle.life_limit.specs.Stands.{AsksBounded}
+use Rattle.life_limit.specs.History.{AsksBounded}
 use Rattle.life_script.specs.Headers.{Headers, added_to, first_value, map_of}
 use Rattle.life_script.specs.declared.scenario.Limits.{Limits}
 use Rattle.life_script.specs.Valid.{ScriptFits}
 use Rattle.life_script.specs.declared.checks.TheConstants.{MAX_HEADER_VALUES}
 use Rattle.life_script.proofs.HeaderMaps.{get_map, map_has_room, put_missing}
 use Rattle.life_stack.specs.Stack.Driven.{named}
-use Rattle.life_stack.specs.Service.Stands.{Head, Heads, TellsHead}
+use Rattle.life_stack.specs.Service.History.{Head, Heads, IsHead}
 use Rattle.life_stack.specs.Table.Decision.{is_shut, is_too_large, seen_headers}
 use Rattle.life_stack.specs.Table.Handed.{room}
 use Rattle.life_stack.specs.Table.Request.{Numbered, ident}
@@ -35,17 +35,17 @@ use Rattle.life_stack.specs.declared.service.body.ScriptBody.{ScriptBody}
 -- A response's head gets the id where it has none.
 
 marked_case : (x : Option FieldValue) (id : FieldValue) (h : Head) (head : ResponseHead Ext) → length h.1 ≤ MAX_HEADER_VALUES → head.parts.status ≡ h.0 → head.parts.headers ≡ map_of h.1 →
-    first_value x_request_id_name h.1 ≡ x → TellsHead (h.0, added_to x x_request_id_name id h.1) (marked_by ext_id with_id x (Some id) x_request_id_name head)
+    first_value x_request_id_name h.1 ≡ x → IsHead (h.0, added_to x x_request_id_name id h.1) (marked_by ext_id with_id x (Some id) x_request_id_name head)
 marked_case (Some v) id h head short status headers is = record { status_is = status; headers_are = headers }
 marked_case None id h head short status headers is = record {
   status_is = status;
   headers_are = ap (λ (m : Entries FieldValue). put_in m x_request_id_name id) headers ∙ put_missing x_request_id_name id h.1 short is;
 }
 
-pub head_named : (id : FieldValue) (h : Head) (head : ResponseHead Ext) → Heads h head → TellsHead (named id h) (marked ext_id with_id x_request_id_name (Some id) head)
+pub head_named : (id : FieldValue) (h : Head) (head : ResponseHead Ext) → Heads h head → IsHead (named id h) (marked ext_id with_id x_request_id_name (Some id) head)
 head_named id h head k =
     let found : get head.parts.headers x_request_id_name ≡ first_value x_request_id_name h.1 = ap (λ (m : Entries FieldValue). get m x_request_id_name) (k.0).headers_are ∙ get_map x_request_id_name h.1 in
-    subst (λ x. TellsHead (named id h) (marked_by ext_id with_id x (Some id) x_request_id_name head)) (sym found)
+    subst (λ x. IsHead (named id h) (marked_by ext_id with_id x (Some id) x_request_id_name head)) (sym found)
     (marked_case (first_value x_request_id_name h.1) id h head k.1 (k.0).status_is (k.0).headers_are refl)
 
 -- A request gets an id where it brings none, and keeps its number.
@@ -85,40 +85,40 @@ headers_by : (x : Option FieldValue) (i : ℕ) (req : Request ScriptBody Ext) (h
 headers_by (Some v) i req headers short are is = are
 headers_by None i req headers short are is = ap (λ (m : Entries FieldValue). put_in m x_request_id_name (plain_value (decimal i))) are ∙ put_missing x_request_id_name (plain_value (decimal i)) headers short is
 
-headers_tagged : (script : Numbered) (req : Request ScriptBody Ext) → IsRequestOf script.script script.number req → ScriptFits script.script →
-    (tagged ext_id with_id x_request_id_name (Some (id_of (plain_value (decimal script.number)))) req).head.parts.headers ≡ map_of (seen_headers script)
-headers_tagged script req q fits =
-    let given : Option RequestId = Some (id_of (plain_value (decimal script.number))) in
-    let found : get req.head.parts.headers x_request_id_name ≡ first_value x_request_id_name script.script.headers =
-    ap (λ (m : Entries FieldValue). get m x_request_id_name) q.headers_are ∙ get_map x_request_id_name script.script.headers in
+headers_tagged : (request : Numbered) (req : Request ScriptBody Ext) → IsRequestOf request.script request.number req → ScriptFits request.script →
+    (tagged ext_id with_id x_request_id_name (Some (id_of (plain_value (decimal request.number)))) req).head.parts.headers ≡ map_of (seen_headers request)
+headers_tagged request req q fits =
+    let given : Option RequestId = Some (id_of (plain_value (decimal request.number))) in
+    let found : get req.head.parts.headers x_request_id_name ≡ first_value x_request_id_name request.script.headers =
+    ap (λ (m : Entries FieldValue). get m x_request_id_name) q.headers_are ∙ get_map x_request_id_name request.script.headers in
     ap (λ x. (tagged_by ext_id with_id x given x_request_id_name req).head.parts.headers) found
-    ∙ headers_by (first_value x_request_id_name script.script.headers) script.number req script.script.headers fits.headers q.headers_are refl
+    ∙ headers_by (first_value x_request_id_name request.script.headers) request.number req request.script.headers fits.headers q.headers_are refl
 
 -- what the layers round the service are asked: a request that is too large, one that is refused by the gate, or one that the service takes
 abbrev pub AsksInner : Limits → Numbered → Request ScriptBody Ext → Type 0
-AsksInner limits script = AsksBounded (is_too_large limits script.script) limits.byte_limit
-    (AsksPast (is_shut limits script) (λ (req : Request (Limited ScriptBody) Ext). is_refused limits.gate_name limits.gate_value req.head.parts.headers)
-    (AsksFor (room limits script.script) script.script script.number))
+AsksInner limits request = AsksBounded (is_too_large limits request.script) limits.byte_limit
+    (AsksPast (is_shut limits request) (λ (req : Request (Limited ScriptBody) Ext). is_refused limits.gate_name limits.gate_value req.head.parts.headers)
+    (AsksFor (room limits request.script) request.script request.number))
 
 -- the request that the layers round the service are called with
-pub request_named : (limits : Limits) (script : Numbered) (maker : ByNumber) (req : Request ScriptBody Ext) (maker_new : ByNumber) (new : Request ScriptBody Ext) → ⊤ → IsRequestOf script.script script.number req × ScriptFits script.script →
+pub request_named : (limits : Limits) (request : Numbered) (maker : ByNumber) (req : Request ScriptBody Ext) (maker_new : ByNumber) (new : Request ScriptBody Ext) → ⊤ → IsRequestOf request.script request.number req × ScriptFits request.script →
     Tags (NumberMakes ext_number) ext_id with_id x_request_id_name maker req (Ok tt) maker_new new →
-    AsksWith x_request_id_name (Some (ident script)) (AsksInner limits script) new
-request_named limits script maker req maker_new new keeps q t =
-    let given : Option RequestId = Some (id_of (plain_value (decimal script.number))) in
+    AsksWith x_request_id_name (Some (ident request)) (AsksInner limits request) new
+request_named limits request maker req maker_new new keeps q t =
+    let given : Option RequestId = Some (id_of (plain_value (decimal request.number))) in
     let new_is : new ≡ tagged ext_id with_id x_request_id_name given req =
-    tagged_is (NumberMakes ext_number) ext_id with_id x_request_id_name maker req maker_new new given (made_number script.number maker maker_new req (q.0).numbered) t in
-    let room_for : is_full_for req.head.parts.headers x_request_id_name ≡ _ = ap (λ (m : Entries FieldValue). is_full_for m x_request_id_name) (q.0).headers_are ∙ map_has_room x_request_id_name script.script.headers (q.1).headers in
-    let found : get req.head.parts.headers x_request_id_name ≡ first_value x_request_id_name script.script.headers =
-    ap (λ (m : Entries FieldValue). get m x_request_id_name) (q.0).headers_are ∙ get_map x_request_id_name script.script.headers in
-    let told : get new.head.parts.headers (codes "content-length") ≡ first_value (codes "content-length") script.script.headers =
+    tagged_is (NumberMakes ext_number) ext_id with_id x_request_id_name maker req maker_new new given (made_number request.number maker maker_new req (q.0).numbered) t in
+    let room_for : is_full_for req.head.parts.headers x_request_id_name ≡ _ = ap (λ (m : Entries FieldValue). is_full_for m x_request_id_name) (q.0).headers_are ∙ map_has_room x_request_id_name request.script.headers (q.1).headers in
+    let found : get req.head.parts.headers x_request_id_name ≡ first_value x_request_id_name request.script.headers =
+    ap (λ (m : Entries FieldValue). get m x_request_id_name) (q.0).headers_are ∙ get_map x_request_id_name request.script.headers in
+    let told : get new.head.parts.headers (codes "content-length") ≡ first_value (codes "content-length") request.script.headers =
     ap (λ (r : Request ScriptBody Ext). get r.head.parts.headers (codes "content-length")) new_is ∙ (length_kept given req
-    ∙ (ap (λ (m : Entries FieldValue). get m (codes "content-length")) (q.0).headers_are ∙ get_map (codes "content-length") script.script.headers)) in
-    let seen : get new.head.parts.headers limits.gate_name ≡ first_value limits.gate_name (seen_headers script) =
+    ∙ (ap (λ (m : Entries FieldValue). get m (codes "content-length")) (q.0).headers_are ∙ get_map (codes "content-length") request.script.headers)) in
+    let seen : get new.head.parts.headers limits.gate_name ≡ first_value limits.gate_name (seen_headers request) =
     ap (λ (r : Request ScriptBody Ext). get r.head.parts.headers limits.gate_name) new_is
-    ∙ (ap (λ (m : Entries FieldValue). get m limits.gate_name) (headers_tagged script req q.0 q.1) ∙ get_map limits.gate_name (seen_headers script)) in
+    ∙ (ap (λ (m : Entries FieldValue). get m limits.gate_name) (headers_tagged request req q.0 q.1) ∙ get_map limits.gate_name (seen_headers request)) in
     let body_is : new.body ≡ req.body = ap (λ (r : Request ScriptBody Ext). r.body) new_is ∙ body_kept (get req.head.parts.headers x_request_id_name) given req in
-    let numbered : IsNumbered script.number new = ap (λ (r : Request ScriptBody Ext). r.head.ext.number) new_is ∙ number_kept (get req.head.parts.headers x_request_id_name) given req ∙ (q.0).numbered in (
+    let numbered : IsNumbered request.number new = ap (λ (r : Request ScriptBody Ext). r.head.ext.number) new_is ∙ number_kept (get req.head.parts.headers x_request_id_name) given req ∙ (q.0).numbered in (
       (
         ap (λ o. is_above limits.byte_limit (length_told o)) told,
         λ small. (
@@ -132,6 +132,6 @@ request_named limits script maker req maker_new new keeps q t =
       ),
       ap (λ (r : Request ScriptBody Ext). get r.head.parts.headers x_request_id_name) new_is
           ∙ tagged_value ext_id with_id x_request_id_name given req room_for
-          ∙ ap (λ o. first_of o (Some (plain_value (decimal script.number)))) found
-          ∙ first_is (first_value x_request_id_name script.script.headers) (plain_value (decimal script.number)),
+          ∙ ap (λ o. first_of o (Some (plain_value (decimal request.number)))) found
+          ∙ first_is (first_value x_request_id_name request.script.headers) (plain_value (decimal request.number)),
     )

@@ -10,13 +10,13 @@ use Rattle.life_session.specs.Acts.{Own}
 use Rattle.life_stack.specs.Table.Story.{answer, answers, answers_after, any_ending, is_ending, kind_after, kind_of}
 
 -- the answers so far
-answers_after_push : (limits : Limits) (script : Numbered) (before acts : List Own) (x : Own) → answers_after limits script before (acts ++ x ∷ []) ≡ answers_after limits script before acts ++ answer limits script (before ++ acts) x ∷ []
-answers_after_push limits script before [] x = ap (λ b. answer limits script b x ∷ []) (sym (append-nil before))
-answers_after_push limits script before (y ∷ acts) x = ap (λ l. answer limits script before y ∷ l)
-    (answers_after_push limits script (before ++ y ∷ []) acts x ∙ ap (λ b. answers_after limits script (before ++ y ∷ []) acts ++ answer limits script b x ∷ []) (append_assoc before (y ∷ []) acts))
+answers_after_push : (limits : Limits) (request : Numbered) (before acts : List Own) (x : Own) → answers_after limits request before (acts ++ x ∷ []) ≡ answers_after limits request before acts ++ answer limits request (before ++ acts) x ∷ []
+answers_after_push limits request before [] x = ap (λ b. answer limits request b x ∷ []) (sym (append-nil before))
+answers_after_push limits request before (y ∷ acts) x = ap (λ l. answer limits request before y ∷ l)
+    (answers_after_push limits request (before ++ y ∷ []) acts x ∙ ap (λ b. answers_after limits request (before ++ y ∷ []) acts ++ answer limits request b x ∷ []) (append_assoc before (y ∷ []) acts))
 
-answers_push : (limits : Limits) (script : Numbered) (before : List Own) (x : Own) → answers limits script (before ++ x ∷ []) ≡ answers limits script before ++ answer limits script before x ∷ []
-answers_push limits script before x = answers_after_push limits script [] before x
+answers_push : (limits : Limits) (request : Numbered) (before : List Own) (x : Own) → answers limits request (before ++ x ∷ []) ≡ answers limits request before ++ answer limits request before x ∷ []
+answers_push limits request before x = answers_after_push limits request [] before x
 
 or_assoc : (a b c : Bool) → (a || b || c) ≡ (a || (b || c))
 or_assoc true b c = refl
@@ -35,9 +35,9 @@ kind_of_push what [] a = refl
 kind_of_push what (g ∷ given) a = kind_of_push (kind_after what g) given a
 
 -- what is told of the answers, by the answer to one act more
-module _ (limits : Limits) (script : Numbered) (before : List Own) (x : Own) (a : Answer) (e : answer limits script before x ≡ a) where
-  pub any_next : any_ending (answers limits script (before ++ x ∷ [])) ≡ (any_ending (answers limits script before) || is_ending a)
-  any_next = ap any_ending (answers_push limits script before x) ∙ any_ending_push (answers limits script before) (answer limits script before x) ∙ ap (λ y. any_ending (answers limits script before) || is_ending y) e
+module _ (limits : Limits) (request : Numbered) (before : List Own) (x : Own) (a : Answer) (e : answer limits request before x ≡ a) where
+  pub any_next : any_ending (answers limits request (before ++ x ∷ [])) ≡ (any_ending (answers limits request before) || is_ending a)
+  any_next = ap any_ending (answers_push limits request before x) ∙ any_ending_push (answers limits request before) (answer limits request before x) ∙ ap (λ y. any_ending (answers limits request before) || is_ending y) e
 
-  pub kind_next : kind_of drop_kind.Future (answers limits script (before ++ x ∷ [])) ≡ kind_after (kind_of drop_kind.Future (answers limits script before)) a
-  kind_next = ap (kind_of drop_kind.Future) (answers_push limits script before x) ∙ kind_of_push drop_kind.Future (answers limits script before) (answer limits script before x) ∙ ap (kind_after (kind_of drop_kind.Future (answers limits script before))) e
+  pub kind_next : kind_of drop_kind.Future (answers limits request (before ++ x ∷ [])) ≡ kind_after (kind_of drop_kind.Future (answers limits request before)) a
+  kind_next = ap (kind_of drop_kind.Future) (answers_push limits request before x) ∙ kind_of_push drop_kind.Future (answers limits request before) (answer limits request before x) ∙ ap (kind_after (kind_of drop_kind.Future (answers limits request before))) e

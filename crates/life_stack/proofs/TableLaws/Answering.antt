@@ -10,44 +10,44 @@ use Rattle.life_core.specs.declared.poll.Poll.{Poll}
 use Rattle.life_core.specs.declared.poll.Poll.TheVariants.{Ready, Pending}
 use Rattle.life_core.specs.History.{Latest, Said, Waits, Gives, Fails, said_with}
 use Rattle.life_drop.specs.EarlyBody.{is_ending_frame}
-use Rattle.life_time.specs.Stands.{undue, wrapped}
+use Rattle.life_time.specs.History.{undue, wrapped}
 use Rattle.life_time.proofs.DeadlineFollows.{undue_all}
-use Rattle.life_core.specs.Due.{due}
+use Rattle.life_core.specs.Timer.{due}
 use Rattle.life_core.specs.declared.event.DropKind.{DropKind}
 use Rattle.life_core.specs.declared.event.Event.{Event}
 use Rattle.life_stack.specs.Table.Request.{Numbered, ident}
-use Rattle.life_script.specs.Views.{ReplyView}
+use Rattle.life_script.specs.Reply.{ReplyView}
 use Rattle.life_script.specs.declared.answer.Answer.TheVariants as ans
 use Rattle.life_script.specs.declared.scenario.BodyItem.{BodyItem}
 use Rattle.life_script.specs.declared.scenario.BodyItem.TheVariants as body_item
 use Rattle.life_script.specs.declared.scenario.Limits.{Limits}
-use Rattle.life_stack.specs.Table.Story.{Outcome, Replied, body_answer, by_head, due_reply, head, head_answer, is_ending, item_answer, kind_after, later_answer, poll_events, tells_after, undue_events}
+use Rattle.life_stack.specs.Table.Story.{Outcome, Replied, body_answer, by_first_answer, due_reply, first_answer, outcome_answer, is_ending, item_answer, kind_after, later_answer, poll_events, tells_after, undue_events}
 use Rattle.life_stack.specs.Stack.Driven.{named, service_says, timed_body_history}
-use Rattle.life_stack.specs.Service.Stands.{BodyPlan, Head, body_plan}
+use Rattle.life_stack.specs.Service.History.{BodyPlan, Head, body_plan}
 use Rattle.life_stack.specs.Service.Script.{item_frame}
 use Rattle.life_session.specs.Course.{frame_told}
-use Rattle.life_stack.proofs.TableLaws.Heads.{head_of, head_more}
+use Rattle.life_stack.proofs.TableLaws.FirstAnswers.{first_answer_of, first_answer_more}
 
 -- what the service says under the timer
 abbrev pub timed_says : Limits → Numbered → ℕ → ℕ → ℕ → Said Head BodyPlan (List ℕ)
-timed_says limits script t0 k t = if due t0 limits.timeout t then Gives (limits.timeout_status, []) (body_plan (due_reply limits)) else said_with (named (ident script)) (service_says limits script k)
+timed_says limits request t0 k t = if due t0 limits.timeout t then Gives (limits.timeout_status, []) (body_plan (due_reply limits)) else said_with (named (ident request)) (service_says limits request k)
 
-pub head_said : (limits : Limits) (script : Numbered) (t0 : ℕ) (ps : List ℕ) (t : ℕ) → head limits script t0 ps ≡ None →
-    head limits script t0 (ps ++ t ∷ []) ≡ head_of (length ps) (timed_says limits script t0 (length ps) t)
-head_said limits script t0 ps t e = head_more limits script t0 ps t e ∙ go (due t0 limits.timeout t)
+pub first_answer_said : (limits : Limits) (request : Numbered) (t0 : ℕ) (ps : List ℕ) (t : ℕ) → first_answer limits request t0 ps ≡ None →
+    first_answer limits request t0 (ps ++ t ∷ []) ≡ first_answer_of (length ps) (timed_says limits request t0 (length ps) t)
+first_answer_said limits request t0 ps t e = first_answer_more limits request t0 ps t e ∙ go (due t0 limits.timeout t)
   where
-    go : (b : Bool) → (if b then Some (length ps, Replied (due_reply limits)) else head_of (length ps) (said_with (named (ident script)) (service_says limits script (length ps))))
-        ≡ head_of (length ps) (if b then Gives (limits.timeout_status, []) (body_plan (due_reply limits)) else said_with (named (ident script)) (service_says limits script (length ps)))
+    go : (b : Bool) → (if b then Some (length ps, Replied (due_reply limits)) else first_answer_of (length ps) (said_with (named (ident request)) (service_says limits request (length ps))))
+        ≡ first_answer_of (length ps) (if b then Gives (limits.timeout_status, []) (body_plan (due_reply limits)) else said_with (named (ident request)) (service_says limits request (length ps)))
     go true = refl
     go false = refl
 
 -- at h
-pub answer_at_head : (limits : Limits) (ps : List ℕ) (k : ℕ) (o : Outcome) → by_head limits ps k (Some (k, o)) ≡ head_answer o
-answer_at_head limits ps k o = rw (le-ltb k k (omega arith), eq-eqb k k refl)
+pub answer_at_first : (limits : Limits) (ps : List ℕ) (k : ℕ) (o : Outcome) → by_first_answer limits ps k (Some (k, o)) ≡ outcome_answer o
+answer_at_first limits ps k o = rw (le-ltb k k (omega arith), eq-eqb k k refl)
 
 -- above h
-pub answer_above_head : (limits : Limits) (ps : List ℕ) (k h : ℕ) (o : Outcome) → h < k → by_head limits ps k (Some (h, o)) ≡ later_answer limits o (slice_index ps h) (slice_index ps k) (k - suc h)
-answer_above_head limits ps k h o l = rw (le-ltb k h (omega arith), ne_eqb k h (λ e. omega (arith, l, e)))
+pub answer_above_first : (limits : Limits) (ps : List ℕ) (k h : ℕ) (o : Outcome) → h < k → by_first_answer limits ps k (Some (h, o)) ≡ later_answer limits o (slice_index ps h) (slice_index ps k) (k - suc h)
+answer_above_first limits ps k h o l = rw (le-ltb k h (omega arith), ne_eqb k h (λ e. omega (arith, l, e)))
 
 pub last_poll : (ps : List ℕ) (t : ℕ) → slice_index (ps ++ t ∷ []) (length ps) ≡ t
 last_poll ps t = get_or_at ps t [] 0 (length ps) refl
@@ -85,14 +85,14 @@ body_table deadline ph r past q l = go (due ph deadline q) refl
     go true e = refl
     go false e = rw (undue_all ph deadline q past l e) (item_table r (length past) (slice_get r.body (length past)))
 
--- up to the head, and after it
-pub up_to_now : (limits : Limits) (script : Numbered) (t0 k t : ℕ) (said : Said Head BodyPlan (List ℕ)) → poll_events limits script t0 k t (head_of k said) ≡ undue_events limits script t0 k t
-up_to_now limits script t0 k t Waits = refl
-up_to_now limits script t0 k t (Gives h p) = rw (le-leb k k (omega arith)) refl
-up_to_now limits script t0 k t (Fails x) = rw (le-leb k k (omega arith)) refl
+-- up to the first answer, and after it
+pub up_to_now : (limits : Limits) (request : Numbered) (t0 k t : ℕ) (said : Said Head BodyPlan (List ℕ)) → poll_events limits request t0 k t (first_answer_of k said) ≡ undue_events limits request t0 k t
+up_to_now limits request t0 k t Waits = refl
+up_to_now limits request t0 k t (Gives h p) = rw (le-leb k k (omega arith)) refl
+up_to_now limits request t0 k t (Fails x) = rw (le-leb k k (omega arith)) refl
 
-pub none_later : (limits : Limits) (script : Numbered) (t0 k t h : ℕ) (o : Outcome) → h < k → poll_events limits script t0 k t (Some (h, o)) ≡ []
-none_later limits script t0 k t h o below = rw (lt-leb k h below) refl
+pub none_later : (limits : Limits) (request : Numbered) (t0 k t h : ℕ) (o : Outcome) → h < k → poll_events limits request t0 k t (Some (h, o)) ≡ []
+none_later limits request t0 k t h o below = rw (lt-leb k h below) refl
 
 -- A poll of a body records nothing.
 no_events : (b : Bool) → ◌≡◌ {A = List Event} (if b then [] else []) []

@@ -2,7 +2,7 @@
 use Rattle.std.proofs.Common.{◌≡◌, ◌≤◌, ℕ, zero, suc, ◌+◌, ◌-◌, List, [], ◌∷◌, ◌++◌, length, Bool, true, false, Option, Some, None, refl, ap, ◌∙◌, arith}
 use Rattle.std.proofs.lemmas.Bool.{leb-true}
 use Rattle.std.specs.Prelude.{nat_le, slice_get, if◌then◌else◌}
-use Rattle.life_core.specs.Due.{due}
+use Rattle.life_core.specs.Timer.{due}
 use Rattle.life_core.specs.declared.event.DropKind.TheVariants as drop_kind
 use Rattle.life_core.specs.declared.event.Event.{Event}
 use Rattle.life_core.specs.declared.event.Event.TheVariants as event
@@ -23,10 +23,10 @@ use Rattle.life_stack.specs.Table.Request.{Numbered}
 use Rattle.life_session.specs.Acts.{Own}
 use Rattle.life_session.specs.Moments.{called_at, dropped_at, polls, polls_before_drop}
 use Rattle.life_session.specs.Table.{turns_by}
-use Rattle.life_stack.specs.Table.Story.{Outcome, answer, answers, any_ending, body_bytes, drop_events, drops, drops_at, events, head, kind_of, on_poll_events, poll_events, story, story_table, turns_bytes, undue_events, unless_dropped}
+use Rattle.life_stack.specs.Table.Story.{Outcome, answer, answers, any_ending, body_bytes, drop_events, drops, drops_at, events, first_answer, kind_of, on_poll_events, poll_events, story, story_table, turns_bytes, undue_events, unless_dropped}
 use Rattle.life_session.proofs.MomentLaws.{after_same, polls_after_call, polls_after_drop, polls_after_dropped, polls_after_poll}
 use Rattle.life_stack.proofs.ServiceLaws.Handing.{asked_more, no_item, room_none}
-use Rattle.life_stack.proofs.TableLaws.Heads.{length_push}
+use Rattle.life_stack.proofs.TableLaws.FirstAnswers.{length_push}
 
 -- ONE ASK takes from the room what it hands.
 
@@ -92,30 +92,30 @@ drop_bytes ans.End es e = refl
 drop_bytes (ans.Fault fault) es e = refl
 drop_bytes ans.Dropped es e = e
 
-module _ (limits : Limits) (script : Numbered) where
+module _ (limits : Limits) (request : Numbered) where
   -- the room that is left before poll k
   abbrev left_at : ℕ → ℕ
-  left_at k = room_before (room limits script.script) script.script.body (asked_before script.script.polls k)
+  left_at k = room_before (room limits request.script) request.script.body (asked_before request.script.polls k)
 
   abbrev Takes : List Event → ℕ → Type 0
   Takes es k = handed_bytes es + left_at (suc k) ≤ left_at k
 
-  served_takes : (k : ℕ) → handed_bytes (handed_from (room limits script.script) script.script.body (asked_before script.script.polls k) (asks_of (slice_get script.script.polls k))) + left_at (suc k) ≤ left_at k
+  served_takes : (k : ℕ) → handed_bytes (handed_from (room limits request.script) request.script.body (asked_before request.script.polls k) (asks_of (slice_get request.script.polls k))) + left_at (suc k) ≤ left_at k
   served_takes k =
-      let all = all_taken (room limits script.script) script.script.body (asked_before script.script.polls k) (asks_of (slice_get script.script.polls k)) in
-      let same = ap (room_before (room limits script.script) script.script.body) (asked_more script.script.polls k) in
+      let all = all_taken (room limits request.script) request.script.body (asked_before request.script.polls k) (asks_of (slice_get request.script.polls k)) in
+      let same = ap (room_before (room limits request.script) request.script.body) (asked_more request.script.polls k) in
       omega (arith, all, same)
 
   none_takes : (es : List Event) (k : ℕ) → handed_bytes es ≡ 0 → Takes es k
   none_takes es k e = let all = served_takes k in omega (arith, all, e)
 
-  decided_takes : (what : Decision) (k : ℕ) → Takes (decided_events what (room limits script.script) script.script k) k
+  decided_takes : (what : Decision) (k : ℕ) → Takes (decided_events what (room limits request.script) request.script k) k
   decided_takes TooLarge k = none_takes [] k refl
   decided_takes Forbidden k = none_takes [] k refl
   decided_takes (Panicked text) k = none_takes (panic_event text ∷ []) k refl
   decided_takes Served k =
-      let item = slice_get script.script.polls k in
-      let both = bytes_append (handed_from (room limits script.script) script.script.body (asked_before script.script.polls k) (asks_of item)) (panic_at item) in
+      let item = slice_get request.script.polls k in
+      let both = bytes_append (handed_from (room limits request.script) request.script.body (asked_before request.script.polls k) (asks_of item)) (panic_at item) in
       let none = panic_bytes item in
       let all = served_takes k in
       omega (arith, both, none, all)
@@ -124,30 +124,30 @@ module _ (limits : Limits) (script : Numbered) where
   choice_takes true es fs k e f = e
   choice_takes false es fs k e f = f
 
-  undue_takes : (t0 k t : ℕ) → Takes (undue_events limits script t0 k t) k
-  undue_takes t0 k t = choice_takes (due t0 limits.timeout t) [] _ k (none_takes [] k refl) (decided_takes (decision limits script) k)
+  undue_takes : (t0 k t : ℕ) → Takes (undue_events limits request t0 k t) k
+  undue_takes t0 k t = choice_takes (due t0 limits.timeout t) [] _ k (none_takes [] k refl) (decided_takes (decision limits request) k)
 
-  poll_takes : (t0 k t : ℕ) (o : Option (ℕ × Outcome)) → Takes (poll_events limits script t0 k t o) k
+  poll_takes : (t0 k t : ℕ) (o : Option (ℕ × Outcome)) → Takes (poll_events limits request t0 k t o) k
   poll_takes t0 k t None = undue_takes t0 k t
   poll_takes t0 k t (Some (h, o)) = choice_takes (nat_le k h) _ [] k (undue_takes t0 k t) (none_takes [] k refl)
 
   -- one act takes from the room that was left before it
   abbrev Within : List Own → Own → Type 0
-  Within before x = handed_bytes (events limits script before x) + left_at (length (polls (before ++ x ∷ []))) ≤ left_at (length (polls before))
+  Within before x = handed_bytes (events limits request before x) + left_at (length (polls (before ++ x ∷ []))) ≤ left_at (length (polls before))
 
-  nothing : (before : List Own) (x : Own) → polls (before ++ x ∷ []) ≡ polls before → handed_bytes (events limits script before x) ≡ 0 → Within before x
+  nothing : (before : List Own) (x : Own) → polls (before ++ x ∷ []) ≡ polls before → handed_bytes (events limits request before x) ≡ 0 → Within before x
   nothing before x p e = let same = ap (λ l. left_at (length l)) p in omega (arith, same, e)
 
-  drop_nothing : (before : List Own) (t : ℕ) → handed_bytes (events limits script before (t, act.Drop)) ≡ 0
-  drop_nothing before t = drop_bytes (answer limits script before (t, act.Drop)) _ (dropped_bytes (called_at (before ++ (t, act.Drop) ∷ [])) (answers limits script (before ++ (t, act.Drop) ∷ [])) t)
+  drop_nothing : (before : List Own) (t : ℕ) → handed_bytes (events limits request before (t, act.Drop)) ≡ 0
+  drop_nothing before t = drop_bytes (answer limits request before (t, act.Drop)) _ (dropped_bytes (called_at (before ++ (t, act.Drop) ∷ [])) (answers limits request (before ++ (t, act.Drop) ∷ [])) t)
 
   polled : (before : List Own) (t t0 : ℕ) → called_at before ≡ Some t0 → dropped_at before ≡ None → Within before (t, act.Poll)
   polled before t t0 c d =
       let k = length (polls before) in
       let more : length (polls (before ++ (t, act.Poll) ∷ [])) ≡ suc k = ap length (polls_after_poll before t0 c t d) ∙ length_push (polls before) t in
-      let made : events limits script before (t, act.Poll) ≡ poll_events limits script t0 k t (head limits script t0 (polls before ++ t ∷ [])) =
-      ap (λ o. on_poll_events limits script o (dropped_at before) (polls before ++ t ∷ []) k t) c ∙ ap (λ o. on_poll_events limits script (Some t0) o (polls before ++ t ∷ []) k t) d in
-      let takes = poll_takes t0 k t (head limits script t0 (polls before ++ t ∷ [])) in
+      let made : events limits request before (t, act.Poll) ≡ poll_events limits request t0 k t (first_answer limits request t0 (polls before ++ t ∷ [])) =
+      ap (λ o. on_poll_events limits request o (dropped_at before) (polls before ++ t ∷ []) k t) c ∙ ap (λ o. on_poll_events limits request (Some t0) o (polls before ++ t ∷ []) k t) d in
+      let takes = poll_takes t0 k t (first_answer limits request t0 (polls before ++ t ∷ [])) in
       let same = ap left_at more in
       let bytes = ap handed_bytes made in
       omega (arith, takes, same, bytes)
@@ -155,16 +155,16 @@ module _ (limits : Limits) (script : Numbered) where
   step : (before : List Own) (x : Own) (c d : Option ℕ) → called_at before ≡ c → dropped_at before ≡ d → Within before x
   step before (t, act.Call) None d c e = nothing before (t, act.Call) (ap polls_before_drop (after_same before c (t, act.Call))) refl
   step before (t, act.Poll) None d c e = nothing before (t, act.Poll) (ap polls_before_drop (after_same before c (t, act.Poll)))
-      (ap (λ o. handed_bytes (on_poll_events limits script o (dropped_at before) (polls before ++ t ∷ []) (length (polls before)) t)) c)
+      (ap (λ o. handed_bytes (on_poll_events limits request o (dropped_at before) (polls before ++ t ∷ []) (length (polls before)) t)) c)
   step before (t, act.Drop) None d c e = nothing before (t, act.Drop) (ap polls_before_drop (after_same before c (t, act.Drop))) (drop_nothing before t)
   step before (t, act.Call) (Some t0) d c e = nothing before (t, act.Call) (polls_after_call before t0 c t) refl
   step before (t, act.Drop) (Some t0) d c e = nothing before (t, act.Drop) (polls_after_drop before t0 c t) (drop_nothing before t)
   step before (t, act.Poll) (Some t0) (Some d) c e = nothing before (t, act.Poll) (polls_after_dropped before t0 c (t, act.Poll) d e)
-      (ap (λ o. handed_bytes (on_poll_events limits script o (dropped_at before) (polls before ++ t ∷ []) (length (polls before)) t)) c
-      ∙ ap (λ o. handed_bytes (on_poll_events limits script (Some t0) o (polls before ++ t ∷ []) (length (polls before)) t)) e)
+      (ap (λ o. handed_bytes (on_poll_events limits request o (dropped_at before) (polls before ++ t ∷ []) (length (polls before)) t)) c
+      ∙ ap (λ o. handed_bytes (on_poll_events limits request (Some t0) o (polls before ++ t ∷ []) (length (polls before)) t)) e)
   step before (t, act.Poll) (Some t0) None c e = polled before t t0 c e
 
-  turns_within : (acts before : List Own) → turns_bytes (turns_by (story_table limits script) before acts) ≤ left_at (length (polls before))
+  turns_within : (acts before : List Own) → turns_bytes (turns_by (story_table limits request) before acts) ≤ left_at (length (polls before))
   turns_within [] before = omega arith
   turns_within (x ∷ acts) before =
       let here = step before x (called_at before) (dropped_at before) refl refl in
@@ -175,8 +175,8 @@ module _ (limits : Limits) (script : Numbered) where
   end_bytes None es e = e
   end_bytes (Some d) es e = refl
 
-  pub story_bounded : (acts : List Own) (end : ℕ) → body_bytes (story limits script acts end) ≤ room limits script.script
+  pub story_bounded : (acts : List Own) (end : ℕ) → body_bytes (story limits request acts end) ≤ room limits request.script
   story_bounded acts end =
       let turns = turns_within acts [] in
-      let none = end_bytes (dropped_at acts) (drops limits script acts end) (dropped_bytes (called_at acts) (answers limits script acts) end) in
+      let none = end_bytes (dropped_at acts) (drops limits request acts end) (dropped_bytes (called_at acts) (answers limits request acts) end) in
       omega (arith, turns, none)

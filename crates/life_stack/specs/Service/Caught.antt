@@ -1,35 +1,35 @@
 -- The scripted service with its panics caught, from which a stack may start: its calls, where its values stand, and what their histories are.
 use Rattle.std.specs.Prelude.{ℕ, Bool, List, [], length, slice_get, Option, Some, None, Result, ⊤}
 use Rattle.life_core.specs.History.{Said, Waits, Fails, FutureHistory, Where}
-use Rattle.life_core.specs.Meaning.{Answer, Reply}
+use Rattle.life_core.specs.Calls.{Answer, Reply}
 use Rattle.life_core.specs.Moment.{Moment}
 use Rattle.life_core.specs.Recorded.{Recorded}
 use Rattle.life_core.specs.declared.message.Request.{Request}
 use Rattle.life_core.specs.declared.recorder.NoMemory.{NoMemory}
-use Rattle.life_core.specs.Boxed.{BoxFrames, BoxLeaves, BoxMay, box_ends}
-use Rattle.life_core.specs.Full.{FullFrames, LeavesNothing, full_ends}
-use Rattle.life_core.specs.Limited.{LimitedLeaves}
+use Rattle.life_core.specs.UnsyncBoxBody.{BoxFrames, BoxAbandons, BoxMay, box_ends}
+use Rattle.life_core.specs.Full.{FullFrames, NothingToAbandon, full_ends}
+use Rattle.life_core.specs.Limited.{LimitedAbandons}
 use Rattle.life_core.specs.declared.body.limited.Limited.{Limited}
 use Rattle.life_core.specs.OneChunk.{BoxStands, FullStands}
 use Rattle.life_core.specs.declared.body.boxed.UnsyncBoxBody.{UnsyncBoxBody}
 use Rattle.life_core.specs.declared.body.full.Full.{Full}
-use Rattle.life_limit.specs.Catch.{CatchCalls, CatchFutureLive, CatchFutureMay, CatchLeaves, CatchMay, CatchPolls, DefaultHandles}
-use Rattle.life_limit.specs.Stands.{CatchServes, CatchStands}
+use Rattle.life_limit.specs.Catch.{CatchCalls, CatchFutureLive, CatchFutureMay, CatchAbandons, CatchMay, CatchPolls, DefaultHandles}
+use Rattle.life_limit.specs.History.{CatchServes, CatchStands}
 use Rattle.life_limit.specs.declared.catch_panic.future.ResponseFuture.{ResponseFuture as CatchFuture}
 use Rattle.life_limit.specs.declared.catch_panic.handler.DefaultResponseForPanic.{DefaultResponseForPanic}
 use Rattle.life_limit.specs.declared.catch_panic.service.CatchPanic.{CatchPanic}
 use Rattle.std.specs.declared.convert.Infallible.{Infallible}
-use Rattle.life_script.specs.ScriptView.{ScriptView}
+use Rattle.life_script.specs.Scenario.{ScriptView}
 use Rattle.life_script.specs.declared.scenario.PollItem.{PollItem}
 use Rattle.life_script.specs.declared.scenario.Then.{Then}
 use Rattle.life_script.specs.declared.scenario.Then.TheVariants as then_
 use Rattle.life_stack.specs.Table.Decision.{Decision, TooLarge, Forbidden, Panicked, Served, forbidden_reply, panic_reply, too_large_reply}
 use Rattle.life_stack.specs.Table.Handed.{decided_events}
-use Rattle.life_stack.specs.Service.Script.{SharedScripts, IsDefaultExt, Finds, ScriptCalls, ScriptFrames, ScriptLeaves, ScriptPolls, tells_end}
+use Rattle.life_stack.specs.Service.Script.{SharedScripts, IsDefaultExt, Finds, ScriptCalls, ScriptFrames, ScriptAbandons, ScriptPolls, tells_end}
 use Rattle.life_stack.specs.declared.service.ext.Ext.{Ext}
 use Rattle.life_stack.specs.declared.service.body.ScriptBody.{ScriptBody}
 use Rattle.life_stack.specs.declared.service.future.ScriptFuture.{ScriptFuture}
-use Rattle.life_stack.specs.Service.Stands.{Head, BodyPlan, reply_says, ScriptStands, ScriptBodyStands, script_body_history}
+use Rattle.life_stack.specs.Service.History.{Head, BodyPlan, reply_says, ScriptStands, ScriptBodyStands, script_body_history}
 
 -- THE TYPES.
 
@@ -46,19 +46,19 @@ Caught = UnsyncBoxBody ScriptBody Full
 -- THE CALLS.
 
 abbrev pub caught_calls : CaughtService → Request (Limited ScriptBody) Ext → Recorded → Moment → Result CaughtFuture NoMemory → CaughtService → Recorded → Type 0
-caught_calls = CatchCalls ScriptCalls (LimitedLeaves ScriptLeaves)
+caught_calls = CatchCalls ScriptCalls (LimitedAbandons ScriptAbandons)
 
 abbrev pub caught_polls : CaughtFuture → Recorded → Moment → Reply Caught Ext (List ℕ) → CaughtFuture → Recorded → Type 0
 caught_polls = CatchPolls ScriptPolls (DefaultHandles IsDefaultExt)
 
-abbrev pub caught_future_leaves : CaughtFuture → Recorded → Moment → Result Unit NoMemory → Recorded → Type 0
-caught_future_leaves = CatchLeaves ScriptLeaves
+abbrev pub caught_future_abandons : CaughtFuture → Recorded → Moment → Result Unit NoMemory → Recorded → Type 0
+caught_future_abandons = CatchAbandons ScriptAbandons
 
 abbrev pub caught_frames : Caught → Recorded → Moment → Answer (List ℕ) (List ℕ) → Caught → Recorded → Type 0
 caught_frames = BoxFrames ScriptFrames (FullFrames {E = Infallible})
 
-abbrev pub caught_leaves : Caught → Recorded → Moment → Result Unit NoMemory → Recorded → Type 0
-caught_leaves = BoxLeaves ScriptLeaves LeavesNothing
+abbrev pub caught_abandons : Caught → Recorded → Moment → Result Unit NoMemory → Recorded → Type 0
+caught_abandons = BoxAbandons ScriptAbandons NothingToAbandon
 
 abbrev pub caught_ends : Caught → Bool
 caught_ends = box_ends tells_end full_ends

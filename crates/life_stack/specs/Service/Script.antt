@@ -7,7 +7,7 @@ use Rattle.http_body.specs.Frame.{data_frame, trailers_frame}
 use Rattle.http_body.specs.declared.frame.Frame.{Frame}
 use Rattle.life_core.specs.History.{Adds}
 use Rattle.life_core.specs.Limited.{body_in, room_in}
-use Rattle.life_core.specs.Meaning.{Answer, Reply}
+use Rattle.life_core.specs.Calls.{Answer, Reply}
 use Rattle.life_core.specs.Moment.{Moment}
 use Rattle.life_core.specs.Recorded.{Recorded}
 use Rattle.life_core.specs.declared.body.limited.Limited.{Limited}
@@ -22,8 +22,8 @@ use Rattle.life_core.specs.declared.poll.Poll.{Poll}
 use Rattle.life_core.specs.declared.poll.Poll.TheVariants.{Ready, Pending}
 use Rattle.life_core.specs.declared.recorder.NoMemory.{NoMemory}
 use Rattle.life_script.specs.Headers.{Headers, map_of}
-use Rattle.life_script.specs.ScriptView.{ScriptView}
-use Rattle.life_script.specs.Views.{ReplyView}
+use Rattle.life_script.specs.Scenario.{ScriptView}
+use Rattle.life_script.specs.Reply.{ReplyView}
 use Rattle.life_script.specs.declared.scenario.BodyItem.{BodyItem}
 use Rattle.life_script.specs.declared.scenario.BodyItem.TheVariants as body_item
 use Rattle.life_script.specs.declared.scenario.CallItem.{CallItem}
@@ -101,8 +101,8 @@ abbrev pub ScriptFrames : ScriptBody → Recorded → Moment → Answer (List �
 ScriptFrames old was m (Ok a) new now = NextItem old a new × (now ≡ was)
 ScriptFrames old was m (Err e) new now = now ≡ was
 
-abbrev pub ScriptLeaves : {S : Type 0} → S → Recorded → Moment → Result Unit NoMemory → Recorded → Type 0
-ScriptLeaves old was m answer now = (answer ≡ Ok tt) × (now ≡ was)
+abbrev pub ScriptAbandons : {S : Type 0} → S → Recorded → Moment → Result Unit NoMemory → Recorded → Type 0
+ScriptAbandons old was m answer now = (answer ≡ Ok tt) × (now ≡ was)
 
 -- the head of a scripted response: its status and its headers
 pub record IsReplyHead (status : ℕ) (headers : Headers) (head : ResponseHead Ext) : Type 0 where

@@ -2,15 +2,15 @@
 use Rattle.std.specs.Prelude.{◌≡◌, ℕ, suc, List, ◌+◌, length, drop, reverse, slice_index, Bool, false, ◌⊎◌, Option, Some, None}
 use Rattle.life_core.specs.declared.event.DropKind.{DropKind}
 use Rattle.life_core.specs.declared.event.DropKind.TheVariants as drop_kind
-use Rattle.life_drop.specs.Stands.{ended}
-use Rattle.life_script.specs.Views.{ReplyView}
+use Rattle.life_drop.specs.History.{ended}
+use Rattle.life_script.specs.Reply.{ReplyView}
 use Rattle.life_script.specs.declared.scenario.Limits.{Limits}
 use Rattle.life_session.specs.Acts.{Own}
 use Rattle.life_session.specs.Course.{Course, Fresh, Awaited, Streamed, Over}
 use Rattle.life_stack.specs.Stack.Driven.{Plan, timed_body_history}
 use Rattle.life_stack.specs.Table.Request.{Numbered}
 use Rattle.life_session.specs.Moments.{called_at, dropped_at, polls}
-use Rattle.life_stack.specs.Table.Story.{Failed, Replied, answers, any_ending, head, kind_of}
+use Rattle.life_stack.specs.Table.Story.{Failed, Replied, answers, any_ending, first_answer, kind_of}
 
 -- what the table looks at in the acts so far
 pub record Signs : Type 0 where
@@ -21,12 +21,12 @@ pub record Signs : Type 0 where
   pub kind : DropKind
 
 abbrev pub signs : Limits → Numbered → List Own → Signs
-signs limits script acts = record {
+signs limits request acts = record {
   called = called_at acts;
   dropped = dropped_at acts;
   polls = polls acts;
-  ending = any_ending (answers limits script acts);
-  kind = kind_of drop_kind.Future (answers limits script acts);
+  ending = any_ending (answers limits request acts);
+  kind = kind_of drop_kind.Future (answers limits request acts);
 }
 
 -- no Call yet; what was answered ends nothing
@@ -36,12 +36,12 @@ pub record FreshAfter (s : Signs) : Type 0 where
   pub kind : s.kind ≡ drop_kind.Future
 
 -- called at t0, not dropped, and polled at these times, the last one first, none of which answered
-pub record AwaitedAfter (limits : Limits) (script : Numbered) (s : Signs) (t0 : ℕ) (past : List ℕ) : Type 0 where
+pub record AwaitedAfter (limits : Limits) (request : Numbered) (s : Signs) (t0 : ℕ) (past : List ℕ) : Type 0 where
   pub called : s.called ≡ Some t0
   pub undropped : s.dropped ≡ None
   pub past_is : past ≡ reverse s.polls
   pub polled : length past ≡ length s.polls
-  pub unanswered : head limits script t0 s.polls ≡ None
+  pub unanswered : first_answer limits request t0 s.polls ≡ None
   pub no_ending : s.ending ≡ false
   pub kind : s.kind ≡ drop_kind.Future
 
@@ -49,12 +49,12 @@ abbrev pub reply_of : Plan → ReplyView
 reply_of plan = record { status = plan.0.0; headers = plan.0.1; body = plan.1.1.items; tells = plan.1.1.tells }
 
 -- called at t0, answered by poll h with a response of this plan, not dropped, and polled at these times since
-pub record StreamedAfter (limits : Limits) (script : Numbered) (s : Signs) (t0 : ℕ) (plan : Plan) (past : List ℕ) : Type 0 where
+pub record StreamedAfter (limits : Limits) (request : Numbered) (s : Signs) (t0 : ℕ) (plan : Plan) (past : List ℕ) : Type 0 where
   pub h : ℕ
   pub called : s.called ≡ Some t0
   pub undropped : s.dropped ≡ None
-  pub head_is : head limits script t0 s.polls ≡ Some (h, Replied (reply_of plan))
-  pub at_head : slice_index s.polls h ≡ plan.1.0
+  pub first_answer_is : first_answer limits request t0 s.polls ≡ Some (h, Replied (reply_of plan))
+  pub at_first_answer : slice_index s.polls h ≡ plan.1.0
   pub past_is : past ≡ reverse (drop (suc h) s.polls)
   pub polled : length s.polls ≡ suc (h + length past)
   pub kind : s.kind ≡ drop_kind.Body plan.0.0
@@ -62,15 +62,15 @@ pub record StreamedAfter (limits : Limits) (script : Numbered) (s : Signs) (t0 :
 
 -- it was dropped, or a poll answered an error
 abbrev pub IsGone : Limits → Numbered → ℕ → Signs → Type 0
-IsGone limits script t0 s =
+IsGone limits request t0 s =
     ((d : ℕ) × (s.dropped ≡ Some d))
-    ⊎ ((h : ℕ) × (error : List ℕ) × (s.dropped ≡ None) × (head limits script t0 s.polls ≡ Some (h, Failed error)))
+    ⊎ ((h : ℕ) × (error : List ℕ) × (s.dropped ≡ None) × (first_answer limits request t0 s.polls ≡ Some (h, Failed error)))
 
 -- nothing is live after a call
-pub record OverAfter (limits : Limits) (script : Numbered) (s : Signs) : Type 0 where
+pub record OverAfter (limits : Limits) (request : Numbered) (s : Signs) : Type 0 where
   pub t0 : ℕ
   pub called : s.called ≡ Some t0
-  pub gone : IsGone limits script t0 s
+  pub gone : IsGone limits request t0 s
 
 -- what a request is told by
 abbrev pub Key : Type 0

@@ -1,5 +1,5 @@
 -- What a drive answers.
-use Rattle.life_script.specs.ScriptView.{ScenarioView}
+use Rattle.life_script.specs.Scenario.{ScenarioView}
 use Rattle.life_script.specs.declared.scenario.Limits.{Limits}
 use Rattle.life_session.specs.Report.{ReportView, report_by}
 use Rattle.life_stack.specs.Table.Request.{numbered}

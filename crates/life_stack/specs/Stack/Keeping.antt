@@ -6,7 +6,7 @@ use Rattle.life_session.specs.Course.{Histories, Standing, course_places}
 use Rattle.life_session.specs.Table.{Meaning, Places, Table}
 use Rattle.life_stack.specs.Stack.Course.{Key, StoryAfter}
 use Rattle.life_stack.specs.Stack.Driven.{BodyMay, BodyStands, DriveBody, DriveFuture, DriveStack, FutureLive, FutureMay, FutureStands, Plan, StackMay, StackStands, body_history, drive_ends, future_history}
-use Rattle.life_stack.specs.Service.Stands.{Head, TellsHead}
+use Rattle.life_stack.specs.Service.History.{Head, IsHead}
 use Rattle.life_stack.specs.Table.Request.{numbered, shown_headers}
 use Rattle.life_stack.specs.Service.Script.{IsRequestOf}
 use Rattle.life_stack.specs.Table.Story.{story_table}
@@ -25,7 +25,7 @@ abbrev pub drive_standing : Standing Key Head Plan DriveStack (Request ScriptBod
 drive_standing = record {
   serves = λ k s. StackStands k.0 k.1 s;
   asks = λ k req. IsRequestOf k.1.script k.1.number req;
-  heads = TellsHead;
+  heads = IsHead;
   future = λ k t0. FutureStands k.0 k.1 t0;
   body = λ k t0. BodyStands k.0 t0;
 }

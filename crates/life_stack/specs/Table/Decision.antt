@@ -6,8 +6,8 @@ use Rattle.life_gate.specs.Required.{matches_first}
 use Rattle.life_limit.specs.Length.{length_told}
 use Rattle.life_limit.specs.Limit.{is_above}
 use Rattle.life_script.specs.Headers.{Headers, first_value}
-use Rattle.life_script.specs.ScriptView.{ScriptView}
-use Rattle.life_script.specs.Views.{ReplyView}
+use Rattle.life_script.specs.Scenario.{ScriptView}
+use Rattle.life_script.specs.Reply.{ReplyView}
 use Rattle.life_script.specs.declared.scenario.CallItem.{CallItem}
 use Rattle.life_script.specs.declared.scenario.Limits.{Limits}
 use Rattle.life_script.specs.declared.scenario.BodyItem.TheVariants as body_item
@@ -32,11 +32,11 @@ is_too_large limits script = is_above limits.byte_limit (declared_by script)
 
 -- the headers that the layers under the one of ids see: with the request's id
 abbrev pub seen_headers : Numbered → Headers
-seen_headers script = identified (ident script) script.script.headers
+seen_headers request = identified (ident request) request.script.headers
 
 -- the gate's header has no value, or its first one is not the expected one
 abbrev pub is_shut : Limits → Numbered → Bool
-is_shut limits script = not (matches_first limits.gate_value (first_value limits.gate_name (seen_headers script)))
+is_shut limits request = not (matches_first limits.gate_value (first_value limits.gate_name (seen_headers request)))
 
 abbrev pub called_by : CallItem → Decision
 called_by call_item.Serve = Served
@@ -49,7 +49,7 @@ decided false true call = Forbidden
 decided false false call = called_by call
 
 abbrev pub decision : Limits → Numbered → Decision
-decision limits script = decided (is_too_large limits script.script) (is_shut limits script) script.script.call
+decision limits request = decided (is_too_large limits request.script) (is_shut limits request) request.script.call
 
 -- REPLIES that are not the script's.
 

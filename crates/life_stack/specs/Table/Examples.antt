@@ -14,8 +14,8 @@ use Rattle.life_core.specs.declared.fault.PanicText.TheVariants.{Known, Unknown}
 use Rattle.life_core.specs.declared.fields.Shown.TheVariants.{Plain}
 use Rattle.life_core.specs.declared.latency.LatencyUnit.TheVariants.{Nanos}
 use Rattle.life_script.specs.Headers.{Headers}
-use Rattle.life_script.specs.ScriptView.{ScriptView}
-use Rattle.life_script.specs.ToldView.{TurnView}
+use Rattle.life_script.specs.Scenario.{ScriptView}
+use Rattle.life_script.specs.Told.{TurnView}
 use Rattle.life_script.specs.declared.answer.Answer.{Answer}
 use Rattle.life_script.specs.declared.answer.Answer.TheVariants as ans
 use Rattle.life_script.specs.declared.answer.Seen.TheVariants as seen

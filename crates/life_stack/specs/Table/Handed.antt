@@ -4,7 +4,7 @@ use Rattle.life_core.specs.declared.event.Event.{Event}
 use Rattle.life_core.specs.declared.event.Handed.{Handed}
 use Rattle.life_core.specs.declared.fault.PanicText.{PanicText}
 use Rattle.life_limit.specs.Limit.{room_of}
-use Rattle.life_script.specs.ScriptView.{ScriptView}
+use Rattle.life_script.specs.Scenario.{ScriptView}
 use Rattle.life_script.specs.declared.scenario.BodyItem.{BodyItem}
 use Rattle.life_script.specs.declared.scenario.Limits.{Limits}
 use Rattle.life_script.specs.declared.scenario.PollItem.{PollItem}
@@ -89,7 +89,7 @@ decided_events (Panicked text) left script k = panic_event text ∷ []
 decided_events Served left script k = served_events left script k
 
 abbrev pub service_events : Limits → Numbered → ℕ → List Event
-service_events limits script k = decided_events (decision limits script) (room limits script.script) script.script k
+service_events limits request k = decided_events (decision limits request) (room limits request.script) request.script k
 
 -- how many bytes of a request's body were handed
 

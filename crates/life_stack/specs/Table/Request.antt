@@ -5,7 +5,7 @@ use Rattle.http_header.specs.HeaderMap.{Entries}
 use Rattle.life_core.specs.Fields.{fields}
 use Rattle.life_core.specs.declared.fields.Shown.{Shown}
 use Rattle.life_script.specs.Headers.{Headers, first_value, map_of, with_missing}
-use Rattle.life_script.specs.ScriptView.{ScriptView}
+use Rattle.life_script.specs.Scenario.{ScriptView}
 use Rattle.life_head.specs.Ids.{x_request_id_name}
 
 -- header fields as they are shown: each name once with its values in order, sorted by name
@@ -24,7 +24,7 @@ numbered i script = record { number = i; script = script }
 
 -- the first id that the request brings, else its number in decimal
 abbrev pub ident : Numbered → FieldValue
-ident script = unwrap_or (first_value x_request_id_name script.script.headers) (plain_value (decimal script.number))
+ident request = unwrap_or (first_value x_request_id_name request.script.headers) (plain_value (decimal request.number))
 
 -- the headers with the id at the end, where they have none
 abbrev pub identified : FieldValue → Headers → Headers

@@ -1,6 +1,6 @@
 -- The story of one request: what each of its acts answers and records, as a table over the finished list of its acts.
 use Rattle.std.specs.Prelude.{ℕ, suc, ◌+◌, ◌-◌, List, [], ◌∷◌, ◌++◌, length, slice_get, slice_index, Bool, true, false, ◌&&◌, ◌||◌, if◌then◌else◌, nat_le, nat_lt, ◌==◌, Option, Some, None, flat_map}
-use Rattle.life_core.specs.Due.{due, since}
+use Rattle.life_core.specs.Timer.{due, since}
 use Rattle.life_core.specs.declared.event.Event.{Event}
 use Rattle.life_core.specs.declared.event.Event.TheVariants as event
 use Rattle.life_core.specs.declared.event.DropKind.{DropKind}
@@ -11,8 +11,8 @@ use Rattle.http_header.specs.FieldValue.{FieldValue}
 use Rattle.life_stack.specs.Table.Decision.{Decision, TooLarge, Forbidden, Panicked, Served, bare_reply, decision, forbidden_reply, panic_reply, too_large_reply}
 use Rattle.life_stack.specs.Table.Handed.{handed_bytes, service_events}
 use Rattle.life_stack.specs.Table.Request.{shown_headers, Numbered, ident, identified}
-use Rattle.life_script.specs.ToldView.{ToldView, TurnView}
-use Rattle.life_script.specs.Views.{ReplyView}
+use Rattle.life_script.specs.Told.{ToldView, TurnView}
+use Rattle.life_script.specs.Reply.{ReplyView}
 use Rattle.life_script.specs.declared.answer.Answer.{Answer}
 use Rattle.life_script.specs.declared.answer.Answer.TheVariants as ans
 use Rattle.life_script.specs.declared.answer.Seen.TheVariants as seen
@@ -27,13 +27,14 @@ use Rattle.life_session.specs.Acts.{Own}
 use Rattle.life_session.specs.Table.{Table, story_by}
 use Rattle.life_session.specs.Moments.{called_at, dropped_at, polls}
 
--- THE HEAD: the first poll that answers otherwise than Pending, and what it gives.
+-- THE FIRST ANSWER: the first poll that answers otherwise than Pending, and what it gives.
 
--- the least index of a poll at which the timer is due
+-- one place further
 abbrev pub next : Option ℕ → Option ℕ
 next None = None
 next (Some k) = Some (suc k)
 
+-- the least index of a poll at which the timer is due
 abbrev pub first_due : ℕ → ℕ → List ℕ → Option ℕ
 first_due start length [] = None
 first_due start length (p ∷ ps) = if due start length p then Some 0 else next (first_due start length ps)
@@ -43,7 +44,7 @@ pub data Outcome : Type 0 where
   Replied : ReplyView → Outcome
   Failed : List ℕ → Outcome
 
--- the least index of a poll item that panics, responds or fails, with what it gives
+-- the same one place further
 abbrev pub later : Option (ℕ × Outcome) → Option (ℕ × Outcome)
 later None = None
 later (Some (r, o)) = Some (suc r, o)
@@ -52,6 +53,7 @@ later (Some (r, o)) = Some (suc r, o)
 abbrev pub replied : FieldValue → ReplyView → ReplyView
 replied id reply = record reply { headers = identified id reply.headers }
 
+-- what an item gives that answers
 abbrev pub outcome_in : FieldValue → Then → Option Outcome
 outcome_in id then_.Pending = None
 outcome_in id (then_.Panic text) = Some (Replied (replied id panic_reply))
@@ -62,19 +64,21 @@ abbrev pub here_or_later : Option Outcome → Option (ℕ × Outcome) → Option
 here_or_later (Some o) rest = Some (0, o)
 here_or_later None rest = later rest
 
+-- the least index of a poll item that panics, responds or fails, with what it gives
 abbrev pub first_outcome : FieldValue → List PollItem → Option (ℕ × Outcome)
 first_outcome id [] = None
 first_outcome id (item ∷ items) = here_or_later (outcome_in id item.then) (first_outcome id items)
 
 -- the least index of a poll at which the service answers, were it asked at each: the first where the decision is not to serve
 abbrev pub decided_outcome : Decision → Numbered → Option (ℕ × Outcome)
-decided_outcome TooLarge script = Some (0, Replied (replied (ident script) too_large_reply))
-decided_outcome Forbidden script = Some (0, Replied (replied (ident script) forbidden_reply))
-decided_outcome (Panicked text) script = Some (0, Replied (replied (ident script) panic_reply))
-decided_outcome Served script = first_outcome (ident script) script.script.polls
+decided_outcome TooLarge request = Some (0, Replied (replied (ident request) too_large_reply))
+decided_outcome Forbidden request = Some (0, Replied (replied (ident request) forbidden_reply))
+decided_outcome (Panicked text) request = Some (0, Replied (replied (ident request) panic_reply))
+decided_outcome Served request = first_outcome (ident request) request.script.polls
 
+-- the same by the decision for the request
 abbrev pub ready_outcome : Limits → Numbered → Option (ℕ × Outcome)
-ready_outcome limits script = decided_outcome (decision limits script) script
+ready_outcome limits request = decided_outcome (decision limits request) request
 
 -- the lesser of the two; the due case wins a tie
 abbrev pub earlier : Option ℕ → Option (ℕ × Outcome) → Outcome → Option (ℕ × Outcome)
@@ -91,8 +95,9 @@ counted n (Some (k, o)) = if nat_lt k n then Some (k, o) else None
 abbrev pub due_reply : Limits → ReplyView
 due_reply limits = bare_reply limits.timeout_status
 
-abbrev pub head : Limits → Numbered → ℕ → List ℕ → Option (ℕ × Outcome)
-head limits script t0 ps = counted (length ps) (earlier (first_due t0 limits.timeout ps) (ready_outcome limits script) (Replied (due_reply limits)))
+-- the first of these polls that answers, and what it gives
+abbrev pub first_answer : Limits → Numbered → ℕ → List ℕ → Option (ℕ × Outcome)
+first_answer limits request t0 ps = counted (length ps) (earlier (first_due t0 limits.timeout ps) (ready_outcome limits request) (Replied (due_reply limits)))
 
 -- THE BODY of a reply.
 
@@ -114,26 +119,26 @@ body_answer deadline reply ph q k = if due ph deadline q then ans.Fault Elapsed 
 
 -- THE ANSWER of each act.
 
--- poll k, where there is no head, or by its index
--- the answer at the head
-abbrev pub head_answer : Outcome → Answer
-head_answer (Replied reply) = ans.Response reply.status (shown_headers reply.headers) (tells_after reply 0)
-head_answer (Failed error) = ans.ServiceError error
+-- what the poll that answers first tells
+abbrev pub outcome_answer : Outcome → Answer
+outcome_answer (Replied reply) = ans.Response reply.status (shown_headers reply.headers) (tells_after reply 0)
+outcome_answer (Failed error) = ans.ServiceError error
 
--- the answer of a poll at q, the k-th after the head, which was at ph; after a service error nothing is live
+-- the answer of a poll at q, the k-th after the first answer, which was at ph; after a service error nothing is live
 abbrev pub later_answer : Limits → Outcome → ℕ → ℕ → ℕ → Answer
 later_answer limits (Replied reply) ph q k = body_answer limits.body_deadline reply ph q k
 later_answer limits (Failed error) ph q k = ans.Idle
 
-abbrev pub by_head : Limits → List ℕ → ℕ → Option (ℕ × Outcome) → Answer
-by_head limits ps k None = ans.Pending
-by_head limits ps k (Some (h, o)) =
+-- poll k, by the first answer
+abbrev pub by_first_answer : Limits → List ℕ → ℕ → Option (ℕ × Outcome) → Answer
+by_first_answer limits ps k None = ans.Pending
+by_first_answer limits ps k (Some (h, o)) =
     if nat_lt k h then ans.Pending
-    else (if k == h then head_answer o
+    else (if k == h then outcome_answer o
     else later_answer limits o (slice_index ps h) (slice_index ps k) (k - suc h))
 
 abbrev pub poll_answer : Limits → Numbered → ℕ → List ℕ → ℕ → Answer
-poll_answer limits script t0 ps k = by_head limits ps k (head limits script t0 ps)
+poll_answer limits request t0 ps k = by_first_answer limits ps k (first_answer limits request t0 ps)
 
 -- by the time of the first Call before the act, and of the first Drop after that
 abbrev pub on_call : Option ℕ → Answer
@@ -141,33 +146,33 @@ on_call None = ans.Called
 on_call (Some t0) = ans.Idle
 
 abbrev pub on_poll : Limits → Numbered → Option ℕ → Option ℕ → List ℕ → ℕ → Answer
-on_poll limits script None d ps k = ans.Idle
-on_poll limits script (Some t0) (Some d) ps k = ans.Idle
-on_poll limits script (Some t0) None ps k = poll_answer limits script t0 ps k
+on_poll limits request None d ps k = ans.Idle
+on_poll limits request (Some t0) (Some d) ps k = ans.Idle
+on_poll limits request (Some t0) None ps k = poll_answer limits request t0 ps k
 
--- what a Drop does, by the head so far
+-- what a Drop does, by the first answer so far
 abbrev pub drop_answer : Option (ℕ × Outcome) → Answer
 drop_answer None = ans.Dropped
 drop_answer (Some (h, Replied reply)) = ans.Dropped
 drop_answer (Some (h, Failed error)) = ans.Idle
 
 abbrev pub on_drop : Limits → Numbered → Option ℕ → Option ℕ → List ℕ → Answer
-on_drop limits script None d ps = ans.Idle
-on_drop limits script (Some t0) (Some d) ps = ans.Idle
-on_drop limits script (Some t0) None ps = drop_answer (head limits script t0 ps)
+on_drop limits request None d ps = ans.Idle
+on_drop limits request (Some t0) (Some d) ps = ans.Idle
+on_drop limits request (Some t0) None ps = drop_answer (first_answer limits request t0 ps)
 
 -- the answer to an act depends on the acts up to it alone
 abbrev pub answer : Limits → Numbered → List Own → Own → Answer
-answer limits script before (t, act.Call) = on_call (called_at before)
-answer limits script before (t, act.Poll) = on_poll limits script (called_at before) (dropped_at before) (polls before ++ t ∷ []) (length (polls before))
-answer limits script before (t, act.Drop) = on_drop limits script (called_at before) (dropped_at before) (polls before)
+answer limits request before (t, act.Call) = on_call (called_at before)
+answer limits request before (t, act.Poll) = on_poll limits request (called_at before) (dropped_at before) (polls before ++ t ∷ []) (length (polls before))
+answer limits request before (t, act.Drop) = on_drop limits request (called_at before) (dropped_at before) (polls before)
 
 abbrev pub answers_after : Limits → Numbered → List Own → List Own → List Answer
-answers_after limits script before [] = []
-answers_after limits script before (x ∷ acts) = answer limits script before x ∷ answers_after limits script (before ++ x ∷ []) acts
+answers_after limits request before [] = []
+answers_after limits request before (x ∷ acts) = answer limits request before x ∷ answers_after limits request (before ++ x ∷ []) acts
 
 abbrev pub answers : Limits → Numbered → List Own → List Answer
-answers limits script acts = answers_after limits script [] acts
+answers limits request acts = answers_after limits request [] acts
 
 -- EARLY DROPS.
 
@@ -209,23 +214,23 @@ drops_at None given d = []
 drops_at (Some t0) given d = if any_ending given then [] else event.Dropped (kind_of drop_kind.Future given) (record { unit = Nanos; nanos = since t0 d }) ∷ []
 
 abbrev pub drops : Limits → Numbered → List Own → ℕ → List Event
-drops limits script acts d = drops_at (called_at acts) (answers limits script acts) d
+drops limits request acts d = drops_at (called_at acts) (answers limits request acts) d
 
 -- THE STORY.
 
 -- poll k at time t reaches the service where its timer is not due
 abbrev pub undue_events : Limits → Numbered → ℕ → ℕ → ℕ → List Event
-undue_events limits script t0 k t = if due t0 limits.timeout t then [] else service_events limits script k
+undue_events limits request t0 k t = if due t0 limits.timeout t then [] else service_events limits request k
 
--- the service is polled up to the head
+-- the service is polled up to the first answer
 abbrev pub poll_events : Limits → Numbered → ℕ → ℕ → ℕ → Option (ℕ × Outcome) → List Event
-poll_events limits script t0 k t None = undue_events limits script t0 k t
-poll_events limits script t0 k t (Some (h, o)) = if nat_le k h then undue_events limits script t0 k t else []
+poll_events limits request t0 k t None = undue_events limits request t0 k t
+poll_events limits request t0 k t (Some (h, o)) = if nat_le k h then undue_events limits request t0 k t else []
 
 abbrev pub on_poll_events : Limits → Numbered → Option ℕ → Option ℕ → List ℕ → ℕ → ℕ → List Event
-on_poll_events limits script None d ps k t = []
-on_poll_events limits script (Some t0) (Some d) ps k t = []
-on_poll_events limits script (Some t0) None ps k t = poll_events limits script t0 k t (head limits script t0 ps)
+on_poll_events limits request None d ps k t = []
+on_poll_events limits request (Some t0) (Some d) ps k t = []
+on_poll_events limits request (Some t0) None ps k t = poll_events limits request t0 k t (first_answer limits request t0 ps)
 
 -- the early drop stands in the turn of the Drop
 abbrev pub drop_events : Answer → List Event → List Event
@@ -241,9 +246,9 @@ drop_events ans.Dropped es = es
 
 -- what is recorded in the turn of an act
 abbrev pub events : Limits → Numbered → List Own → Own → List Event
-events limits script before (t, act.Call) = []
-events limits script before (t, act.Poll) = on_poll_events limits script (called_at before) (dropped_at before) (polls before ++ t ∷ []) (length (polls before)) t
-events limits script before (t, act.Drop) = drop_events (answer limits script before (t, act.Drop)) (drops limits script (before ++ (t, act.Drop) ∷ []) t)
+events limits request before (t, act.Call) = []
+events limits request before (t, act.Poll) = on_poll_events limits request (called_at before) (dropped_at before) (polls before ++ t ∷ []) (length (polls before)) t
+events limits request before (t, act.Drop) = drop_events (answer limits request before (t, act.Drop)) (drops limits request (before ++ (t, act.Drop) ∷ []) t)
 
 -- at the end where no Drop came
 abbrev pub unless_dropped : Option ℕ → List Event → List Event
@@ -251,15 +256,15 @@ unless_dropped None es = es
 unless_dropped (Some d) es = []
 
 abbrev pub at_end : Limits → Numbered → List Own → ℕ → List Event
-at_end limits script acts end = unless_dropped (dropped_at acts) (drops limits script acts end)
+at_end limits request acts end = unless_dropped (dropped_at acts) (drops limits request acts end)
 
 -- THE STORY: the turns of all acts, and what is recorded at the end.
 
 abbrev pub story_table : Limits → Numbered → Table
-story_table limits script = record { answer = answer limits script; events = events limits script; at_end = at_end limits script }
+story_table limits request = record { answer = answer limits request; events = events limits request; at_end = at_end limits request }
 
 abbrev pub story : Limits → Numbered → List Own → ℕ → ToldView
-story limits script acts end = story_by (story_table limits script) acts end
+story limits request acts end = story_by (story_table limits request) acts end
 
 -- the early-drop records among what was told, in order
 abbrev pub dropped_in : List Event → List Event

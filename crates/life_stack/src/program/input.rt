@@ -1,7 +1,7 @@
 //! Taking a source's bytes.
 ghost use Rattle.std.specs.Prelude.{◌≡◌, ◌≤◌, List, ℕ, Err};
 ghost use Rattle.std.specs.Io.KnownBytes.{Consumes};
-ghost use Rattle.life_core.specs.Causes.{Rose};
+ghost use Rattle.life_core.specs.Faults.{Rose};
 ghost use Rattle.life_stack.specs.Program.Input.{IsTaken};
 
 use life_core::{Failed, Octets, Source};

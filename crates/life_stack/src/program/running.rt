@@ -1,18 +1,18 @@
 //! A run: words and a source in, a status and a text out.
 ghost use Rattle.std.specs.Prelude.{◌≡◌, ◌≤◌, ◌<◌, ◌-◌, ◌^◌, ◌⊎◌, List, ℕ, None, Some, length};
-ghost use Rattle.life_core.specs.Causes.{Rose};
-ghost use Rattle.life_script.specs.ScriptView.{ScenarioView};
+ghost use Rattle.life_core.specs.Faults.{Rose};
+ghost use Rattle.life_script.specs.Scenario.{ScenarioView};
 ghost use Rattle.life_script.specs.declared.scenario.Limits.{Limits};
 ghost use Rattle.life_stack.specs.Stack.Drive.{report_of};
 ghost use Rattle.life_session.specs.Report.{report_text};
 ghost use Rattle.life_stack.specs.Program.Input.{most_bytes};
 ghost use Rattle.life_stack.specs.Program.Lines.{usage_line};
-ghost use Rattle.life_stack.specs.Program.Run.{RanOn, HasDue, HasScenario};
+ghost use Rattle.life_stack.specs.Program.Run.{RanOn, HasOutput, HasScenario};
 ghost use Rattle.life_stack.specs.Program.Words.{command};
 ghost use Rattle.life_stack.specs.Program.Writing.{IsSteady};
 
-use crate::program::due::due_for;
 use crate::program::input::{Stopped, take_all};
+use crate::program::output::output_for;
 use crate::program::status::Status;
 use crate::program::words::{Command, command_of};
 use crate::program::writing::answer;
@@ -21,10 +21,10 @@ use std::alloc::Global;
 
 /// Reads a scenario from the source, drives it and writes its report.
 fn drive_source<S: Source, K: Sink>(alloc: Global, source: &mut S, sink: &mut K) -> Status
-    ensures ran { (taken : List ℕ) × (due : List ℕ)
-        × RanOn (Some Command.Drive) taken due (S.rest source.old) (S.rest source.new)
+    ensures ran { (taken : List ℕ) × (output : List ℕ)
+        × RanOn (Some Command.Drive) taken output (S.rest source.old) (S.rest source.new)
         (K.held sink.old) (K.held sink.new) result
-        × IsSteady (K.reliable sink.old) due (K.faults sink.old) (K.faults sink.new) }
+        × IsSteady (K.reliable sink.old) output (K.faults sink.old) (K.faults sink.new) }
     ensures source_fault { result ≡ Status.SourceFault → Rose (S.faults source.old) (S.faults source.new) }
     ensures sink_fault { result ≡ Status.SinkFault → Rose (K.faults sink.old) (K.faults sink.new) }
     ensures unwritten { (result ≡ Status.SourceFault) ⊎ (result ≡ Status.NoMemory) → sink.new ≡ sink.old }
@@ -40,8 +40,8 @@ fn drive_source<S: Source, K: Sink>(alloc: Global, source: &mut S, sink: &mut K)
         }
         Err(Stopped::NoMemory) => return Status::NoMemory,
     };
-    match due_for(alloc, bytes.as_slice()) {
-        Ok(due) => answer(sink, due.text.as_slice(), due.status),
+    match output_for(alloc, bytes.as_slice()) {
+        Ok(output) => answer(sink, output.text.as_slice(), output.status),
         Err(_) => Status::NoMemory,
     }
 }
@@ -51,7 +51,7 @@ fn drive_source<S: Source, K: Sink>(alloc: Global, source: &mut S, sink: &mut K)
 ///
 /// The answer is `Done` where the report was written whole. `Usage`, `TooLong`, `BadScenario` and `Refused`
 /// are answered where their line was written whole. `SourceFault` is a read that failed, and `NoMemory` want
-/// of memory: nothing was written then. `SinkFault` is a write that failed: the first bytes of what was due
+/// of memory: nothing was written then. `SinkFault` is a write that failed: the first bytes of the output
 /// may have been written. Reading the words and writing take no memory.
 pub fn run<S: Source, K: Sink>(
     alloc: Global,
@@ -59,11 +59,11 @@ pub fn run<S: Source, K: Sink>(
     source: &mut S,
     sink: &mut K,
 ) -> Status
-    // What was taken from the source, what was due to be written, and how much of that was written.
-    ensures ran { (taken : List ℕ) × (due : List ℕ)
-        × RanOn (command words.now) taken due (S.rest source.old) (S.rest source.new)
+    // What was taken from the source, the output, and how much of that was written.
+    ensures ran { (taken : List ℕ) × (output : List ℕ)
+        × RanOn (command words.now) taken output (S.rest source.old) (S.rest source.new)
         (K.held sink.old) (K.held sink.new) result
-        × IsSteady (K.reliable sink.old) due (K.faults sink.old) (K.faults sink.new) }
+        × IsSteady (K.reliable sink.old) output (K.faults sink.old) (K.faults sink.new) }
 
     ensures usage { command words.now ≡ None → (result ≡ Status.Usage) ⊎ (result ≡ Status.SinkFault) }
     ensures usage_only { result ≡ Status.Usage → command words.now ≡ None }
@@ -77,14 +77,14 @@ pub fn run<S: Source, K: Sink>(
     ensures sink_later { K.faults sink.old ≤ K.faults sink.new }
     ensures source_steady { S.reliable source.old → S.faults source.new ≡ S.faults source.old }
 
-    // Where no fault is counted, what is due is written: the report of a valid scenario, the line on what is
+    // Where no fault is counted, the output is written: the report of a valid scenario, the line on what is
     // no valid scenario, and the line on wrong words.
     ensures complete { (limits : Limits) (scenario : ScenarioView)
         → command words.now ≡ Some Command.Drive → HasScenario (S.rest source.old) limits scenario
         → ¬ Rose (S.faults source.old) (S.faults source.new) → ¬ Rose (K.faults sink.old) (K.faults sink.new)
         → (result ≡ Status.Done) ⊎ (result ≡ Status.NoMemory) }
     ensures complete_each { (status : Status)
-        → command words.now ≡ Some Command.Drive → HasDue (S.rest source.old) status
+        → command words.now ≡ Some Command.Drive → HasOutput (S.rest source.old) status
         → ¬ Rose (S.faults source.old) (S.faults source.new) → ¬ Rose (K.faults sink.old) (K.faults sink.new)
         → (result ≡ status) ⊎ (result ≡ Status.NoMemory) }
     ensures complete_too_long { (bytes : List ℕ) → command words.now ≡ Some Command.Drive

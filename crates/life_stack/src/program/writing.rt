@@ -1,7 +1,7 @@
 //! Writing a text whole.
 ghost use Rattle.std.specs.Prelude.{◌≡◌, ◌≢◌, ◌≤◌, OnOk, OnErr};
 ghost use Rattle.std.specs.Io.KnownBytes.{Appends};
-ghost use Rattle.life_core.specs.Causes.{Rose};
+ghost use Rattle.life_core.specs.Faults.{Rose};
 ghost use Rattle.life_stack.specs.Program.Writing.{AppendsPrefix, IsAnswered, IsSteady};
 
 use crate::program::status::Status;
@@ -23,16 +23,16 @@ pub fn write_all<K: Sink>(sink: &mut K, bytes: &[u8]) -> Result<(), Failed>
     Ok(())
 }
 
-/// Writes the text that is due, and answers the status that is meant, or a fault of the sink. It takes no
+/// Writes an output, and answers the status that is meant, or a fault of the sink. It takes no
 /// memory.
-pub fn answer<K: Sink>(sink: &mut K, due: &[u8], meant: Status) -> Status
+pub fn answer<K: Sink>(sink: &mut K, output: &[u8], meant: Status) -> Status
     requires { meant ≢ Status.SinkFault }
-    ensures answered { IsAnswered due.now (K.held sink.old) (K.held sink.new) meant result }
+    ensures answered { IsAnswered output.now (K.held sink.old) (K.held sink.new) meant result }
     ensures cause { result ≡ Status.SinkFault → Rose (K.faults sink.old) (K.faults sink.new) }
     ensures later { K.faults sink.old ≤ K.faults sink.new }
-    ensures steady { IsSteady (K.reliable sink.old) due.now (K.faults sink.old) (K.faults sink.new) }
+    ensures steady { IsSteady (K.reliable sink.old) output.now (K.faults sink.old) (K.faults sink.new) }
 {
-    match write_all(sink, due) {
+    match write_all(sink, output) {
         Ok(()) => meant,
         Err(Failed) => Status::SinkFault,
     }

@@ -33,7 +33,7 @@ fn fault_handed(fault: BodyError<Text>) -> Handed
     }
 }
 
-/// What was handed by an answer of a request's body. The one error is want of memory.
+/// What was handed by an answer of a request's body.
 fn handed_as(
     alloc: Global,
     answer: Poll<Option<Result<Frame<Bytes>, BodyError<Text>>>>,
@@ -43,15 +43,12 @@ fn handed_as(
     match answer {
         Poll::Pending => Ok(Handed::Pending),
         Poll::Ready(None) => Ok(Handed::End),
-        Poll::Ready(Some(Ok(frame))) => match seen_in(alloc, frame) {
-            Ok(seen) => Ok(handed_seen(seen)),
-            Err(no_memory) => Err(no_memory),
-        },
+        Poll::Ready(Some(Ok(frame))) => Ok(handed_seen(seen_in(alloc, frame)?)),
         Poll::Ready(Some(Err(fault))) => Ok(fault_handed(fault)),
     }
 }
 
-/// Asks for a frame, and records what was handed. The one error is want of memory.
+/// Asks for a frame, and records what was handed.
 fn ask<L: Recorder>(body: &mut Limited<ScriptBody>, cx: &mut Cx<'_, L>) -> Got<()>
     ensures asked { IfOk result (λ done. Asked 1 body.old (L.recorded cx.old.rec.now) body.new (L.recorded cx.new.rec.now)) }
     ensures refused { IfErr result (λ error. Extends (L.recorded cx.old.rec.now) (L.recorded cx.new.rec.now)) }
@@ -66,7 +63,7 @@ fn ask<L: Recorder>(body: &mut Limited<ScriptBody>, cx: &mut Cx<'_, L>) -> Got<(
     }
 }
 
-/// Asks for so many frames, one after another, and records each. The one error is want of memory.
+/// Asks for so many frames, one after another, and records each.
 pub(crate) fn ask_times<L: Recorder>(
     body: &mut Limited<ScriptBody>,
     asks: u8,

@@ -1,7 +1,7 @@
 //! The body of a request or of a response, by a script.
 ghost use Rattle.std.specs.Prelude.{◌≡◌, ⊤, slice_get, drop};
 ghost use Rattle.std.specs.Option.{option_copied};
-ghost use Rattle.life_stack.specs.Service.Script.{ScriptFrames, ScriptLeaves, IsDefaultBody, tells_end, hint_of};
+ghost use Rattle.life_stack.specs.Service.Script.{ScriptFrames, ScriptAbandons, IsDefaultBody, tells_end, hint_of};
 
 use bytes::Bytes;
 use http_body::{Frame, SizeHint};
@@ -80,7 +80,7 @@ impl<L: Recorder> DefaultBody<L> for ScriptBody {
 impl<L: Recorder> Spend<L> for ScriptBody {
     ghost may = { λ _. ⊤ };
 
-    ghost leaves = { ScriptLeaves };
+    ghost abandons = { ScriptAbandons };
 
     fn abandon(self, _cx: &mut Cx<'_, L>) -> Got<()> {
         let ScriptBody {
@@ -114,15 +114,12 @@ impl<L: Recorder> Body<L> for ScriptBody {
                     Err(_) => Err(NoMemory),
                 }
             }
-            Some(BodyItem::Trailers(trailers)) => match trailers.to_map(cx.alloc) {
-                Ok(map) => Ok(Poll::Ready(Some(Ok(Frame::trailers(map))))),
-                Err(no_memory) => Err(no_memory),
-            },
+            Some(BodyItem::Trailers(trailers)) => {
+                let map = trailers.to_map(cx.alloc)?;
+                Ok(Poll::Ready(Some(Ok(Frame::trailers(map)))))
+            }
             Some(BodyItem::Pending) => Ok(Poll::Pending),
-            Some(BodyItem::Fault(fault)) => match fault.twin(cx.alloc) {
-                Ok(fault) => Ok(Poll::Ready(Some(Err(fault)))),
-                Err(no_memory) => Err(no_memory),
-            },
+            Some(BodyItem::Fault(fault)) => Ok(Poll::Ready(Some(Err(fault.twin(cx.alloc)?)))),
             None => Ok(Poll::Ready(None)),
         }
     }

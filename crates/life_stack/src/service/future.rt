@@ -1,6 +1,6 @@
 //! The future of the scripted service.
 ghost use Rattle.std.specs.Prelude.{⊤, IfOk};
-ghost use Rattle.life_stack.specs.Service.Script.{Answers, ScriptPolls, ScriptLeaves, IsReply};
+ghost use Rattle.life_stack.specs.Service.Script.{Answers, ScriptPolls, ScriptAbandons, IsReply};
 
 use crate::service::asking::ask_times;
 use crate::service::body::{ScriptBody, take_next};
@@ -25,7 +25,7 @@ pub struct ScriptFuture {
 impl<L: Recorder> Spend<L> for ScriptFuture {
     ghost may = { λ _. ⊤ };
 
-    ghost leaves = { ScriptLeaves };
+    ghost abandons = { ScriptAbandons };
 
     fn abandon(self, cx: &mut Cx<'_, L>) -> Got<()> {
         let ScriptFuture {
@@ -55,35 +55,24 @@ impl<L: Recorder> Future<L> for ScriptFuture {
         let Some(item) = take_next(&self.polls, &mut self.next) else {
             return Ok(Poll::Pending);
         };
-        match ask_times(&mut self.body, item.asks, cx) {
-            Ok(()) => answer(cx.alloc, &item.then),
-            Err(no_memory) => Err(no_memory),
-        }
+        ask_times(&mut self.body, item.asks, cx)?;
+        answer(cx.alloc, &item.then)
     }
 }
 
-/// The answer to what an item says. The one error is want of memory.
+/// The answer to what an item says.
 fn answer(alloc: Global, then: &Then) -> Got<Poll<Result<Response<ScriptBody, Ext>, Fault<Text>>>>
     ensures { IfOk result (Answers then.now) }
 {
     match then {
         Then::Pending => Ok(Poll::Pending),
-        Then::Panic(text) => match text.twin(alloc) {
-            Ok(text) => Ok(Poll::Ready(Err(Fault::Panicked(text)))),
-            Err(no_memory) => Err(no_memory),
-        },
-        Then::Fail(error) => match error.twin(alloc) {
-            Ok(error) => Ok(Poll::Ready(Err(Fault::Err(error)))),
-            Err(no_memory) => Err(no_memory),
-        },
-        Then::Respond(reply) => match respond(alloc, reply) {
-            Ok(response) => Ok(Poll::Ready(Ok(response))),
-            Err(no_memory) => Err(no_memory),
-        },
+        Then::Panic(text) => Ok(Poll::Ready(Err(Fault::Panicked(text.twin(alloc)?)))),
+        Then::Fail(error) => Ok(Poll::Ready(Err(Fault::Err(error.twin(alloc)?)))),
+        Then::Respond(reply) => Ok(Poll::Ready(Ok(respond(alloc, reply)?))),
     }
 }
 
-/// The response of a script. The one error is want of memory.
+/// The response of a script.
 fn respond(alloc: Global, reply: &Reply) -> Got<Response<ScriptBody, Ext>>
     ensures { IfOk result (IsReply reply.now) }
 {

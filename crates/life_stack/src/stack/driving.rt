@@ -1,7 +1,7 @@
 //! Drives the steps of a scenario, one after another.
 ghost use Rattle.std.specs.Prelude.{◌≡◌, ◌≤◌, ℕ, slice_get, Some, Err, IfOk, IfErr, IsOk};
-ghost use Rattle.life_script.specs.ScriptView.{ScriptView};
-ghost use Rattle.life_script.specs.ToldView.{ToldView};
+ghost use Rattle.life_script.specs.Scenario.{ScriptView};
+ghost use Rattle.life_script.specs.Told.{ToldView};
 ghost use Rattle.life_script.specs.Valid.{IsValid, verdict};
 ghost use Rattle.life_script.specs.declared.error.DriveError.TheVariants.{NoMemory as OutOfMemory};
 ghost use Rattle.life_session.specs.Session.{IsRefused};

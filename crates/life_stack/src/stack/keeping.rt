@@ -59,7 +59,7 @@ impl Driven for EightLayers {
         poll_future(future, cx)
     }
 
-    fn leave_future<L: Recorder>(future: DriveFuture<Log>, cx: &mut Cx<'_, L>) -> Got<()> {
+    fn abandon_future<L: Recorder>(future: DriveFuture<Log>, cx: &mut Cx<'_, L>) -> Got<()> {
         abandon_future(future, cx)
     }
 
@@ -74,11 +74,11 @@ impl Driven for EightLayers {
         Body::<Log>::is_end_stream(body)
     }
 
-    fn leave_body<L: Recorder>(body: DriveBody, cx: &mut Cx<'_, L>) -> Got<()> {
+    fn abandon_body<L: Recorder>(body: DriveBody, cx: &mut Cx<'_, L>) -> Got<()> {
         abandon_body(body, cx)
     }
 
-    fn tells_nothing() {}
+    fn idles() {}
 }
 
 /// A session over the eight layers.

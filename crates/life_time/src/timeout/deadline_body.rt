@@ -28,11 +28,11 @@ impl<B> DeadlineBody<B> {
 }
 
 impl<B: Spend<L>, L: Recorder> Spend<L> for DeadlineBody<B> {
-    ghost use Rattle.life_time.specs.DeadlineBody.{DeadlineBodyMay, DeadlineBodyLeaves};
+    ghost use Rattle.life_time.specs.DeadlineBody.{DeadlineBodyMay, DeadlineBodyAbandons};
 
     ghost may = { DeadlineBodyMay B.may };
 
-    ghost leaves = { DeadlineBodyLeaves B.leaves };
+    ghost abandons = { DeadlineBodyAbandons B.abandons };
 
     fn abandon(self, cx: &mut Cx<'_, L>) -> Got<()> {
         let DeadlineBody { body, timer: _ } = self;

@@ -90,11 +90,11 @@ pub struct ResponseBodyDeadlineFuture<F> {
 }
 
 impl<F: Spend<L>, L: Recorder> Spend<L> for ResponseBodyDeadlineFuture<F> {
-    ghost use Rattle.life_time.specs.DeadlineService.{DeadlineFutureMay, DeadlineLeaves};
+    ghost use Rattle.life_time.specs.DeadlineService.{DeadlineFutureMay, DeadlineAbandons};
 
     ghost may = { DeadlineFutureMay F.may };
 
-    ghost leaves = { DeadlineLeaves F.leaves };
+    ghost abandons = { DeadlineAbandons F.abandons };
 
     fn abandon(self, cx: &mut Cx<'_, L>) -> Got<()> {
         let ResponseBodyDeadlineFuture { inner, timeout: _ } = self;

@@ -114,11 +114,11 @@ pub struct ResponseFuture<F> {
 }
 
 impl<F: Spend<L>, L: Recorder> Spend<L> for ResponseFuture<F> {
-    ghost use Rattle.life_time.specs.Timeout.{TimeoutFutureMay, TimeoutLeaves};
+    ghost use Rattle.life_time.specs.Timeout.{TimeoutFutureMay, TimeoutAbandons};
 
     ghost may = { TimeoutFutureMay F.may };
 
-    ghost leaves = { TimeoutLeaves F.leaves };
+    ghost abandons = { TimeoutAbandons F.abandons };
 
     fn abandon(self, cx: &mut Cx<'_, L>) -> Got<()> {
         let ResponseFuture {
@@ -146,7 +146,7 @@ where
 
     ghost live = { TimeoutFutureLive F.live };
 
-    ghost polls = { TimeoutPolls F.polls F.leaves B.is_default X.is_default };
+    ghost polls = { TimeoutPolls F.polls F.abandons B.is_default X.is_default };
 
     fn poll(&mut self, cx: &mut Cx<'_, L>) -> Got<Poll<Result<Response<B, X>, E>>> {
         if self.timer.is_due(cx.now) {

@@ -28,7 +28,7 @@ fn number_of(value: &HeaderValue) -> Option<i32>
     }
 }
 
-/// A message, percent-decoded and read as UTF-8 with U+FFFD for what is none. The one error is want of memory.
+/// A message, percent-decoded and read as UTF-8 with U+FFFD for what is none.
 fn decode(alloc: Global, message: &HeaderValue) -> Got<Text>
     ensures { IfOk result (λ text. text ≡ decoded message.now.bytes) }
 {
@@ -41,15 +41,12 @@ fn decode(alloc: Global, message: &HeaderValue) -> Got<Text>
     }
 }
 
-/// The first `grpc-message`, decoded. The one error is want of memory.
+/// The first `grpc-message`, decoded.
 fn message_of(alloc: Global, headers: &HeaderMap) -> Got<Option<Text>>
     ensures { IfOk result (λ message. message ≡ message_in headers.now) }
 {
     match headers.get("grpc-message") {
-        Some(message) => match decode(alloc, message) {
-            Ok(text) => Ok(Some(text)),
-            Err(no_memory) => Err(no_memory),
-        },
+        Some(message) => Ok(Some(decode(alloc, message)?)),
         None => Ok(None),
     }
 }
@@ -64,7 +61,7 @@ fn is_success(success_codes: GrpcCodeBitmask, number: i32) -> bool
     }
 }
 
-/// What a `grpc-status` with this number tells. The one error is want of memory.
+/// What a `grpc-status` with this number tells.
 fn classify_number(
     alloc: Global,
     number: i32,
@@ -76,13 +73,11 @@ fn classify_number(
     if is_success(success_codes, number) {
         return Ok(ParsedGrpcStatus::Success);
     }
-    match message_of(alloc, headers) {
-        Ok(message) => Ok(ParsedGrpcStatus::NonSuccess(GrpcStatus::new(number, message))),
-        Err(no_memory) => Err(no_memory),
-    }
+    let message = message_of(alloc, headers)?;
+    Ok(ParsedGrpcStatus::NonSuccess(GrpcStatus::new(number, message)))
 }
 
-/// What the first `grpc-status` tells. The one error is want of memory.
+/// What the first `grpc-status` tells.
 pub(crate) fn classify_grpc_metadata(
     alloc: Global,
     headers: &HeaderMap,
@@ -100,7 +95,7 @@ pub(crate) fn classify_grpc_metadata(
 }
 
 /// What the first `grpc-status` of headers or trailers tells, and the first `grpc-message` where it is no
-/// success of the classifier's, for which `Ok` always is one. The one error is want of memory.
+/// success of the classifier's, for which `Ok` always is one.
 pub fn grpc_metadata(
     alloc: Global,
     headers: &HeaderMap,

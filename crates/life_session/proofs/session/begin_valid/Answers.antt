@@ -1,7 +1,7 @@
 use Rattle.std.proofs.Common.{◌≡◌, List, length, ℕ, ap, ◌∙◌, arith, subst, sym}
 use Rattle.std.specs.List.{AllZip}
 use Rattle.std.specs.Prelude.{slice_get, ◌<◌}
-use Rattle.life_script.specs.ScriptView.{ScenarioView, ScriptView}
+use Rattle.life_script.specs.Scenario.{ScenarioView, ScriptView}
 use Rattle.life_script.specs.Valid.{IsValid}
 use Rattle.life_script.specs.declared.scenario.Step.{Step}
 use Rattle.life_script.proofs.CheckLemmas.{valid_headers, valid_requests}
@@ -35,7 +35,7 @@ invariant_of-result g c =
     let own_is : own ≡ c.args.limits.now = c.in_ok-own_limits.ensures in
     let stack = c.in_ok-stack.stack in
     let each = zip_length IsFresh c.in_ok-counts.counts.items c.in_ok-exchanges.exchanges.items fresh in (
-      session_begun g.D.Driven.meaning own scenario stack c.in_ok-counts.counts.items c.in_ok-exchanges.exchanges.items c.tells_nothing.ensures.fresh_first valid c.in_ok-stack.ensures.may c.in_ok-exchanges.ensures.may
+      session_begun g.D.Driven.meaning own scenario stack c.in_ok-counts.counts.items c.in_ok-exchanges.exchanges.items c.idles.ensures.fresh_first valid c.in_ok-stack.ensures.may c.in_ok-exchanges.ensures.may
           (λ script i there. subst (λ l. Serves g.D.Driven.meaning l i script stack) (sym own_is)
           (c.in_ok-stack.ensures.serves script i (ap (λ l. slice_get l.items i) c.in-Ok.ensures.cases ∙ there) (valid_headers scenario valid i script there)))
           (subst (λ n. Counts n steps c.in_ok-counts.counts.items) many counted) fresh,

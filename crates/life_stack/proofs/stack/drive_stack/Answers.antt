@@ -1,6 +1,6 @@
 use Rattle.std.proofs.Common.{List, ap, ◌∙◌}
 use Rattle.std.specs.Prelude.{slice_get}
-use Rattle.life_script.specs.ScriptView.{ScenarioView, ScriptView}
+use Rattle.life_script.specs.Scenario.{ScenarioView, ScriptView}
 use Rattle.life_script.proofs.CheckLemmas.{valid_headers}
 use Rattle.life_stack.proofs.stack.drive_stack.Goals as goal
 

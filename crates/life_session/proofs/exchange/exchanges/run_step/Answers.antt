@@ -3,7 +3,7 @@ use Rattle.std.proofs.lemmas.Option.{slice_get_read}
 use Rattle.std.specs.Prelude.{length, slice_index_or, ◌<◌, ℕ}
 use Rattle.life_session.specs.Exchange.{ExchangeAt}
 use Rattle.life_session.specs.Session.{May, MovesOn}
-use Rattle.life_script.specs.ScriptView.{ScriptView}
+use Rattle.life_script.specs.Scenario.{ScriptView}
 use Rattle.life_session.specs.declared.exchange.Exchange.{Exchange}
 use Rattle.life_session.proofs.PlaceLaws.{set_here, set_twice, each_set}
 use Rattle.life_session.proofs.ActLaws.{some_is}
@@ -33,7 +33,7 @@ returns-in-Ok-clause-ran g c =
       c.put.ensures ∙ set_twice old i c.replace-exchange.new.dest c.in-Ok.exchange,
       (λ script is.
           let there = slice_get_read c.args.scripts.now (length c.args.scripts.now) i c.index-scripts-i.result refl (subst (λ n. i < n) c.requires.scripted c.requires.within) c.index-scripts-i.is in
-          subst (λ (s : ScriptView). MovesOn g.D.Driven.meaning c.args.stack.now c.args.step s c.replace-exchange.result c.in-Ok.exchange) (some_is (sym there ∙ is)) (λ limits acts left at serves order. c.in-Ok.ensures.ran limits acts left at serves (c.tells_nothing.ensures.ready_at_rest _ _ refl) order)),
+          subst (λ (s : ScriptView). MovesOn g.D.Driven.meaning c.args.stack.now c.args.step s c.replace-exchange.result c.in-Ok.exchange) (some_is (sym there ∙ is)) (λ limits acts left at serves order. c.in-Ok.ensures.ran limits acts left at serves (c.idles.ensures.ready_at_rest _ _ refl) order)),
     )
 
 pub returns-in-Err-clause-ran : goal.returns-in-Err-clause-ran

@@ -1,6 +1,6 @@
 use Rattle.std.proofs.Common.{◌++◌, ◌∷◌, [], List, length, ap, ◌∙◌, append-nil, append_assoc, arith, subst, sym}
 use Rattle.std.specs.List.{AllZip}
-use Rattle.life_script.specs.ToldView.{ToldView}
+use Rattle.life_script.specs.Told.{ToldView}
 use Rattle.life_session.specs.Session.{May, Tells}
 use Rattle.life_session.specs.declared.exchange.Exchange.{Exchange}
 use Rattle.life_session.proofs.PlaceLaws.{each_after_first, first_of_each, none_left, zip_push}

@@ -1,5 +1,5 @@
 use Rattle.std.proofs.Common.{List, length, ap, ◌∙◌, subst, sym}
-use Rattle.life_script.specs.ToldView.{ToldView}
+use Rattle.life_script.specs.Told.{ToldView}
 use Rattle.life_session.specs.Report.{Fits, report_by}
 use Rattle.life_session.specs.Session.{SessionView}
 use Rattle.life_session.specs.Table.{tables}

@@ -15,14 +15,14 @@ returns-in-None-clause-ran g c =
 pub returns-in-Some-Drive-clause-complete : goal.returns-in-Some-Drive-clause-complete
 returns-in-Some-Drive-clause-complete g c = λ limits scenario asked has source sink.
     let e = c.drive_source.ensures in
-    runs_through (Some Drive) e.ran.0 e.ran.1 _ _ _ _ limits scenario _ e.ran.2 refl has (λ is. source (e.source_fault is)) (λ is due. sink (e.sink_fault is))
+    runs_through (Some Drive) e.ran.0 e.ran.1 _ _ _ _ limits scenario _ e.ran.2 refl has (λ is. source (e.source_fault is)) (λ is output. sink (e.sink_fault is))
 
 pub returns-in-Some-Drive-clause-assured : goal.returns-in-Some-Drive-clause-assured
 returns-in-Some-Drive-clause-assured g c = λ limits scenario room asked has source source_low sink fits sink_low.
     let e = c.drive_source.ensures in
     runs_through (Some Drive) e.ran.0 e.ran.1 _ _ _ _ limits scenario _ e.ran.2 refl has
     (λ is. stands _ _ (e.source_steady source) source_low (e.source_fault is))
-    (λ is due. stands _ _ (e.ran.3 room sink (rw due fits)) sink_low (e.sink_fault is))
+    (λ is output. stands _ _ (e.ran.3 room sink (rw output fits)) sink_low (e.sink_fault is))
 
 pub returns-in-Some-Drive-clause-complete_each : goal.returns-in-Some-Drive-clause-complete_each
 returns-in-Some-Drive-clause-complete_each g c = λ status asked has source sink.

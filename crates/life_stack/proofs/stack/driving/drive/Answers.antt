@@ -6,8 +6,8 @@ use Rattle.life_stack.specs.Stack.Drive.{report_of}
 use Rattle.life_stack.specs.Table.Request.{numbered}
 use Rattle.life_stack.specs.Table.Story.{story_table, body_bytes, drops, drop_records}
 use Rattle.std.specs.Prelude.{slice_get}
-use Rattle.life_script.specs.ScriptView.{ScriptView, ScenarioView}
-use Rattle.life_script.specs.ToldView.{ToldView}
+use Rattle.life_script.specs.Scenario.{ScriptView, ScenarioView}
+use Rattle.life_script.specs.Told.{ToldView}
 use Rattle.life_script.specs.declared.scenario.Limits.{Limits}
 use Rattle.life_session.specs.Acts.{own}
 use Rattle.life_stack.proofs.TableLaws.Bounds.{story_bounded}

@@ -10,5 +10,5 @@ returns-in-Err-clause-polls g c =
       left = c.abandon.result;
       inner = rw (arm.is, arm.field-0-is) at c.in_ok-head.ensures.polls;
       asks = rw arm.head-is (search rules);
-      leaving = subst (λ m. g.B.Spend.leaves arm.field-0-0.body (g.L.Recorder.recorded c.poll.new.cx.rec.now) m c.abandon.result (g.L.Recorder.recorded c.abandon.new.cx.rec.now)) c.poll.ensures.context.moment c.abandon.ensures.leaves;
+      leaving = subst (λ m. g.B.Spend.abandons arm.field-0-0.body (g.L.Recorder.recorded c.poll.new.cx.rec.now) m c.abandon.result (g.L.Recorder.recorded c.abandon.new.cx.rec.now)) c.poll.ensures.context.moment c.abandon.ensures.abandons;
     })

@@ -6,11 +6,11 @@ returns-in-Ok-clause-calls g c = inl (record { tagged = c.tag.new.request; tags 
 
 pub returns-in-Err-clause-calls : goal.returns-in-Err-clause-calls
 returns-in-Err-clause-calls g c = inr (
-  c.give_up_request.result,
+  c.abandon_request.result,
   refl,
   record {
     asked = search rules;
-    left = rw c.tag.ensures.body at c.give_up_request.ensures.left;
+    left = rw c.tag.ensures.body at c.abandon_request.ensures.left;
     same = refl;
   },
 )

@@ -1,3 +1,4 @@
+-- The forms of what calls mean, and what calls inward have in common.
 use Rattle.std.specs.Prelude.{◌≡◌, Option, Some, None, Result, Ok, Err, ⊤}
 use Rattle.http_body.specs.declared.frame.Frame.{Frame}
 use Rattle.life_core.specs.declared.message.Response.{Response}
@@ -25,27 +26,33 @@ Frames B D E = Steps B (Answer D E)
 abbrev pub Readies : Type 0 → Type 0 → Type 1
 Readies S E = Steps S (Poll (Result Unit E))
 
+-- a service passes readiness on: the inner answer, and its own parts stay
+pub record Forwards {S I E : Type 0} (inner : S → I) (with_inner : S → I → S) (readies : Readies I E) (old : S) (was : Recorded) (m : Moment)
+    (answer : Poll (Result Unit E)) (new : S) (now : Recorded) : Type 0 where
+  pub forwarded : readies (inner old) was m answer (inner new) now
+  pub same : new ≡ with_inner old (inner new)
+
 -- the same with a request
 abbrev pub Calls : Type 0 → Type 0 → Type 0 → Type 1
 Calls S R F = S → R → Recorded → Moment → Result F NoMemory → S → Recorded → Type 0
 
 -- State and recorder before, when, the answer, the recorder after.
-abbrev pub Leaves : Type 0 → Type 1
-Leaves S = S → Recorded → Moment → Result Unit NoMemory → Recorded → Type 0
+abbrev pub Abandons : Type 0 → Type 1
+Abandons S = S → Recorded → Moment → Result Unit NoMemory → Recorded → Type 0
 
 -- whether memory was there, whatever was answered
 abbrev pub spent : {A : Type 0} → Result A NoMemory → Result Unit NoMemory
 spent (Ok a) = Ok tt
 spent (Err e) = Err e
 
--- it is given up, whatever that answers
-abbrev pub GivenUp : {S : Type 0} → Leaves S → S → Recorded → Moment → Recorded → Type 0
-GivenUp leaves s was m now = (left : Result Unit NoMemory) × leaves s was m left now
+-- it is abandoned, whatever that answers
+abbrev pub Abandoned : {S : Type 0} → Abandons S → S → Recorded → Moment → Recorded → Type 0
+Abandoned abandons s was m now = (left : Result Unit NoMemory) × abandons s was m left now
 
--- what is there is given up
-abbrev pub LeavesIfAny : {F : Type 0} → Leaves F → Option F → Recorded → Moment → Result Unit NoMemory → Recorded → Type 0
-LeavesIfAny leaves None was m answer now = (answer ≡ Ok tt) × (now ≡ was)
-LeavesIfAny leaves (Some f) was m answer now = leaves f was m answer now
+-- what is there is abandoned
+abbrev pub AbandonsIfAny : {F : Type 0} → Abandons F → Option F → Recorded → Moment → Result Unit NoMemory → Recorded → Type 0
+AbandonsIfAny abandons None was m answer now = (answer ≡ Ok tt) × (now ≡ was)
+AbandonsIfAny abandons (Some f) was m answer now = abandons f was m answer now
 
 -- what is there is polled, and stays there
 abbrev pub PollsWithin : {F A : Type 0} → Polls F A → Option F → Recorded → Moment → Result (Poll A) NoMemory → Option F → Recorded → Type 0

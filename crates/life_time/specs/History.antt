@@ -1,7 +1,7 @@
 -- Where the values of these layers stand after some polls, and what their histories are.
 use Rattle.std.specs.Prelude.{◌≡◌, ℕ, List, [], ◌∷◌, if◌then◌else◌, Option, Some, None, Ok, Err, Result, ⊤}
 use Rattle.http_body.specs.declared.frame.Frame.{Frame}
-use Rattle.life_core.specs.Due.{due}
+use Rattle.life_core.specs.Timer.{due}
 use Rattle.life_core.specs.History.{BodyHistory, Gives, said_under, FutureHistory, Where, Waiting, Answered}
 use Rattle.life_core.specs.declared.body.BodyError.{BodyError}
 use Rattle.life_core.specs.declared.body.BodyError.TheVariants.{Elapsed, Inner}

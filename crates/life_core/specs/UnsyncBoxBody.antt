@@ -1,6 +1,6 @@
 -- One body in place of several.
 use Rattle.std.specs.Prelude.{◌≡◌, ℕ, Bool, true, Option, Some, None, Ok, Err, ⊤}
-use Rattle.life_core.specs.Meaning.{Frames, Answer, Leaves}
+use Rattle.life_core.specs.Calls.{Frames, Answer, Abandons}
 use Rattle.life_core.specs.Moment.{Moment}
 use Rattle.life_core.specs.Recorded.{Recorded}
 use Rattle.life_core.specs.declared.body.boxed.UnsyncBoxBody.{UnsyncBoxBody}
@@ -15,10 +15,10 @@ BoxMay may panic_may (Inner b) = may b
 BoxMay may panic_may (Panic p) = panic_may p
 BoxMay may panic_may Empty = ⊤
 
-abbrev pub BoxLeaves : {B P : Type 0} → Leaves B → Leaves P → Leaves (UnsyncBoxBody B P)
-BoxLeaves leaves panic_leaves (Inner b) was m answer now = leaves b was m answer now
-BoxLeaves leaves panic_leaves (Panic p) was m answer now = panic_leaves p was m answer now
-BoxLeaves leaves panic_leaves Empty was m answer now = (answer ≡ Ok tt) × (now ≡ was)
+abbrev pub BoxAbandons : {B P : Type 0} → Abandons B → Abandons P → Abandons (UnsyncBoxBody B P)
+BoxAbandons abandons panic_abandons (Inner b) was m answer now = abandons b was m answer now
+BoxAbandons abandons panic_abandons (Panic p) was m answer now = panic_abandons p was m answer now
+BoxAbandons abandons panic_abandons Empty was m answer now = (answer ≡ Ok tt) × (now ≡ was)
 
 -- an answer of a body that never faults, told as one of a body that may
 abbrev pub NeverFaults : {P D E N : Type 0} → Frames P D N → P → Recorded → Moment → Answer D E → P → Recorded → Type 0

@@ -3,26 +3,26 @@ use lib.Dec.{leb-suc-suc}
 use Rattle.std.proofs.Common.{◌≡◌, ℕ, zero, suc, ◌<◌, ◌≤◌, List, [], ◌∷◌, ◌++◌, length, Bool, true, false, Option, Some, None, refl, sym, ap, ◌∙◌, arith, ⊎_elim, le-ltb}
 use Rattle.std.specs.Prelude.{slice_get, nat_lt, nat_le, if◌then◌else◌}
 use Rattle.std.proofs.lemmas.Bool.{ltb-true, ltb-false, leb-false, lt-ltb, le-leb, lt-leb, cases_Bool}
-use Rattle.life_core.specs.Due.{due}
+use Rattle.life_core.specs.Timer.{due}
 use Rattle.http_header.specs.FieldValue.{FieldValue}
 use Rattle.life_stack.specs.Table.Request.{Numbered, ident}
-use Rattle.life_script.specs.Views.{ReplyView}
+use Rattle.life_script.specs.Reply.{ReplyView}
 use Rattle.life_script.specs.declared.scenario.Limits.{Limits}
 use Rattle.life_script.specs.declared.scenario.PollItem.{PollItem}
 use Rattle.life_script.specs.declared.scenario.Then.{Then}
 use Rattle.life_script.specs.declared.scenario.Then.TheVariants as then_
-use Rattle.life_stack.specs.Table.Story.{Failed, Outcome, Replied, counted, decided_outcome, due_reply, earlier, first_due, first_outcome, head, here_or_later, later, next, outcome_in, ready_outcome, replied}
+use Rattle.life_stack.specs.Table.Story.{Failed, Outcome, Replied, counted, decided_outcome, due_reply, earlier, first_due, first_outcome, first_answer, here_or_later, later, next, outcome_in, ready_outcome, replied}
 use Rattle.life_stack.specs.Table.Decision.{Decision, TooLarge, Forbidden, Panicked, Served, decision, forbidden_reply, panic_reply, too_large_reply}
 use Rattle.life_core.specs.History.{Said, Waits, Gives, Fails, said_with}
 use Rattle.life_stack.specs.Stack.Driven.{named, service_says}
-use Rattle.life_stack.specs.Service.Stands.{BodyPlan, Head, reply_says}
+use Rattle.life_stack.specs.Service.History.{BodyPlan, Head, reply_says}
 use Rattle.life_stack.specs.Service.Caught.{then_says, item_says, decided_says}
 
--- the head that a poll with this index and this answer makes
-abbrev pub head_of : ℕ → Said Head BodyPlan (List ℕ) → Option (ℕ × Outcome)
-head_of k Waits = None
-head_of k (Gives head p) = Some (k, Replied (record { status = head.0; headers = head.1; body = p.items; tells = p.tells }))
-head_of k (Fails error) = Some (k, Failed error)
+-- the first answer that a poll with this index and this answer makes
+abbrev pub first_answer_of : ℕ → Said Head BodyPlan (List ℕ) → Option (ℕ × Outcome)
+first_answer_of k Waits = None
+first_answer_of k (Gives head p) = Some (k, Replied (record { status = head.0; headers = head.1; body = p.items; tells = p.tells }))
+first_answer_of k (Fails error) = Some (k, Failed error)
 
 if_none : Option ℕ → Option ℕ → Option ℕ
 if_none None x = x
@@ -78,9 +78,9 @@ counted_earlier_none n (Some k) (Some (r, reply)) late h e = absurd (go (nat_le 
     go false f = some≢none (sym (counted_below n r reply (let one = h k refl in let two = leb-false k r f in omega (arith, one, two))) ∙ sym (ap (λ b. counted n (if b then Some (k, late) else Some (r, reply))) f) ∙ e)
 
 -- no due poll so far, and no item that answers below this index
-pub head_none : (limits : Limits) (script : Numbered) (t0 : ℕ) (ps : List ℕ) → head limits script t0 ps ≡ None →
-    (first_due t0 limits.timeout ps ≡ None) × (counted (length ps) (ready_outcome limits script) ≡ None)
-head_none limits script t0 ps e = counted_earlier_none (length ps) (first_due t0 limits.timeout ps) (ready_outcome limits script) (Replied (due_reply limits)) (first_due_below t0 limits.timeout ps) e
+pub none_answered : (limits : Limits) (request : Numbered) (t0 : ℕ) (ps : List ℕ) → first_answer limits request t0 ps ≡ None →
+    (first_due t0 limits.timeout ps ≡ None) × (counted (length ps) (ready_outcome limits request) ≡ None)
+none_answered limits request t0 ps e = counted_earlier_none (length ps) (first_due t0 limits.timeout ps) (ready_outcome limits request) (Replied (due_reply limits)) (first_due_below t0 limits.timeout ps) e
 
 counted-later : (m : ℕ) (o : Option (ℕ × Outcome)) → counted (suc m) (later o) ≡ later (counted m o)
 counted-later m None = refl
@@ -94,10 +94,10 @@ later_none : (o : Option (ℕ × Outcome)) → later o ≡ None → o ≡ None
 later_none None e = refl
 later_none (Some (k, r)) e = absurd (some≢none e)
 
-head_of-later : (m : ℕ) (s : Said Head BodyPlan (List ℕ)) → later (head_of m s) ≡ head_of (suc m) s
-head_of-later m Waits = refl
-head_of-later m (Gives head p) = refl
-head_of-later m (Fails x) = refl
+first_answer_of-later : (m : ℕ) (s : Said Head BodyPlan (List ℕ)) → later (first_answer_of m s) ≡ first_answer_of (suc m) s
+first_answer_of-later m Waits = refl
+first_answer_of-later m (Gives head p) = refl
+first_answer_of-later m (Fails x) = refl
 
 -- what the item at an index says, of a list with this item at its front
 abbrev says_at : FieldValue → ℕ → Then → List PollItem → Said Head BodyPlan (List ℕ)
@@ -109,13 +109,13 @@ none_below None = refl
 none_below (Some (k, r)) = counted_above 0 k r (omega arith)
 
 outcome_step : (id : FieldValue) (n : ℕ) (t : Then) (items : List PollItem) →
-    ((m : ℕ) → counted m (first_outcome id items) ≡ None → counted (suc m) (first_outcome id items) ≡ head_of m (said_with (named id) (item_says (slice_get items m)))) →
-    counted n (here_or_later (outcome_in id t) (first_outcome id items)) ≡ None → counted (suc n) (here_or_later (outcome_in id t) (first_outcome id items)) ≡ head_of n (says_at id n t items)
+    ((m : ℕ) → counted m (first_outcome id items) ≡ None → counted (suc m) (first_outcome id items) ≡ first_answer_of m (said_with (named id) (item_says (slice_get items m)))) →
+    counted n (here_or_later (outcome_in id t) (first_outcome id items)) ≡ None → counted (suc n) (here_or_later (outcome_in id t) (first_outcome id items)) ≡ first_answer_of n (says_at id n t items)
 outcome_step id zero then_.Pending items ih e = counted-later zero (first_outcome id items) ∙ ap later (none_below (first_outcome id items))
 outcome_step id (suc n) then_.Pending items ih e =
     counted-later (suc n) (first_outcome id items)
     ∙ ap later (ih n (later_none _ (sym (counted-later n (first_outcome id items)) ∙ e)))
-    ∙ head_of-later n (said_with (named id) (item_says (slice_get items n)))
+    ∙ first_answer_of-later n (said_with (named id) (item_says (slice_get items n)))
 outcome_step id zero (then_.Panic text) items ih e = counted_below 1 0 (Replied (replied id panic_reply)) (omega arith)
 outcome_step id (suc n) (then_.Panic text) items ih e = absurd (some≢none (sym (counted_below (suc n) 0 (Replied (replied id panic_reply)) (omega arith)) ∙ e))
 outcome_step id zero (then_.Fail error) items ih e = counted_below 1 0 (Failed error) (omega arith)
@@ -123,38 +123,38 @@ outcome_step id (suc n) (then_.Fail error) items ih e = absurd (some≢none (sym
 outcome_step id zero (then_.Respond r) items ih e = counted_below 1 0 (Replied (replied id r)) (omega arith)
 outcome_step id (suc n) (then_.Respond r) items ih e = absurd (some≢none (sym (counted_below (suc n) 0 (Replied (replied id r)) (omega arith)) ∙ e))
 
-first_outcome_at : (id : FieldValue) (n : ℕ) (items : List PollItem) → counted n (first_outcome id items) ≡ None → counted (suc n) (first_outcome id items) ≡ head_of n (said_with (named id) (item_says (slice_get items n)))
+first_outcome_at : (id : FieldValue) (n : ℕ) (items : List PollItem) → counted n (first_outcome id items) ≡ None → counted (suc n) (first_outcome id items) ≡ first_answer_of n (said_with (named id) (item_says (slice_get items n)))
 first_outcome_at id n [] e = refl
 first_outcome_at id zero (item ∷ items) e = outcome_step id zero item.then items (λ m. first_outcome_at id m items) e
 first_outcome_at id (suc n) (item ∷ items) e = outcome_step id (suc n) item.then items (λ m. first_outcome_at id m items) e
 
 -- an answer in the service's place is given at once
-at_once : (id : FieldValue) (n : ℕ) (r : ReplyView) → counted n (Some (0, Replied (replied id r))) ≡ None → counted (suc n) (Some (0, Replied (replied id r))) ≡ head_of n (said_with (named id) (reply_says r))
+at_once : (id : FieldValue) (n : ℕ) (r : ReplyView) → counted n (Some (0, Replied (replied id r))) ≡ None → counted (suc n) (Some (0, Replied (replied id r))) ≡ first_answer_of n (said_with (named id) (reply_says r))
 at_once id zero r e = counted_below 1 0 (Replied (replied id r)) (omega arith)
 at_once id (suc n) r e = absurd (some≢none (sym (counted_below (suc n) 0 (Replied (replied id r)) (omega arith)) ∙ e))
 
-decided_at : (what : Decision) (script : Numbered) (n : ℕ) → counted n (decided_outcome what script) ≡ None → counted (suc n) (decided_outcome what script) ≡ head_of n (said_with (named (ident script)) (decided_says what script.script.polls n))
-decided_at TooLarge script n e = at_once (ident script) n too_large_reply e
-decided_at Forbidden script n e = at_once (ident script) n forbidden_reply e
-decided_at (Panicked text) script n e = at_once (ident script) n panic_reply e
-decided_at Served script n e = first_outcome_at (ident script) n script.script.polls e
+decided_at : (what : Decision) (request : Numbered) (n : ℕ) → counted n (decided_outcome what request) ≡ None → counted (suc n) (decided_outcome what request) ≡ first_answer_of n (said_with (named (ident request)) (decided_says what request.script.polls n))
+decided_at TooLarge request n e = at_once (ident request) n too_large_reply e
+decided_at Forbidden request n e = at_once (ident request) n forbidden_reply e
+decided_at (Panicked text) request n e = at_once (ident request) n panic_reply e
+decided_at Served request n e = first_outcome_at (ident request) n request.script.polls e
 
-ready_at : (limits : Limits) (script : Numbered) (n : ℕ) → counted n (ready_outcome limits script) ≡ None → counted (suc n) (ready_outcome limits script) ≡ head_of n (said_with (named (ident script)) (service_says limits script n))
-ready_at limits script n e = decided_at (decision limits script) script n e
+ready_at : (limits : Limits) (request : Numbered) (n : ℕ) → counted n (ready_outcome limits request) ≡ None → counted (suc n) (ready_outcome limits request) ≡ first_answer_of n (said_with (named (ident request)) (service_says limits request n))
+ready_at limits request n e = decided_at (decision limits request) request n e
 
 pub length_push : {A : Type 0} (xs : List A) (x : A) → length (xs ++ x ∷ []) ≡ suc (length xs)
 length_push [] x = refl
 length_push (y ∷ xs) x = ap suc (length_push xs x)
 
 -- the first poll that answers, where none did so far
-pub head_more : (limits : Limits) (script : Numbered) (t0 : ℕ) (ps : List ℕ) (t : ℕ) → head limits script t0 ps ≡ None →
-    head limits script t0 (ps ++ t ∷ []) ≡ (if due t0 limits.timeout t then Some (length ps, Replied (due_reply limits)) else head_of (length ps) (said_with (named (ident script)) (service_says limits script (length ps))))
+pub first_answer_more : (limits : Limits) (request : Numbered) (t0 : ℕ) (ps : List ℕ) (t : ℕ) → first_answer limits request t0 ps ≡ None →
+    first_answer limits request t0 (ps ++ t ∷ []) ≡ (if due t0 limits.timeout t then Some (length ps, Replied (due_reply limits)) else first_answer_of (length ps) (said_with (named (ident request)) (service_says limits request (length ps))))
 unfolding if_none
-head_more limits script t0 ps t e = let was = head_none limits script t0 ps e in
-    rw (length_push ps t, first_due-push t0 limits.timeout ps t, was.0) (go (due t0 limits.timeout t) (ready_outcome limits script) was.1 (ready_at limits script (length ps) was.1))
+first_answer_more limits request t0 ps t e = let was = none_answered limits request t0 ps e in
+    rw (length_push ps t, first_due-push t0 limits.timeout ps t, was.0) (go (due t0 limits.timeout t) (ready_outcome limits request) was.1 (ready_at limits request (length ps) was.1))
   where
-    go : (b : Bool) (a : Option (ℕ × Outcome)) → counted (length ps) a ≡ None → counted (suc (length ps)) a ≡ head_of (length ps) (said_with (named (ident script)) (service_says limits script (length ps))) →
-        counted (suc (length ps)) (earlier (if b then Some (length ps) else None) a (Replied (due_reply limits))) ≡ (if b then Some (length ps, Replied (due_reply limits)) else head_of (length ps) (said_with (named (ident script)) (service_says limits script (length ps))))
+    go : (b : Bool) (a : Option (ℕ × Outcome)) → counted (length ps) a ≡ None → counted (suc (length ps)) a ≡ first_answer_of (length ps) (said_with (named (ident request)) (service_says limits request (length ps))) →
+        counted (suc (length ps)) (earlier (if b then Some (length ps) else None) a (Replied (due_reply limits))) ≡ (if b then Some (length ps, Replied (due_reply limits)) else first_answer_of (length ps) (said_with (named (ident request)) (service_says limits request (length ps))))
     go false a n f = f
     go true None n f = counted_below (suc (length ps)) (length ps) (Replied (due_reply limits)) (omega arith)
     go true (Some (r, reply)) n f = rw (le-leb (length ps) r (above_of (length ps) r reply n)) (counted_below (suc (length ps)) (length ps) (Replied (due_reply limits)) (omega arith))
@@ -168,21 +168,21 @@ earlier_kept n None None late true x e = absurd (some≢none (sym e))
 earlier_kept n None (Some (r, reply)) late true x e = rw (lt-leb n r (below_of n r reply x e)) (counted_kept n (suc n) (Some (r, reply)) x (omega arith) e)
 
 -- once a poll answered, it stays the first
-pub head_kept : (limits : Limits) (script : Numbered) (t0 : ℕ) (ps : List ℕ) (t : ℕ) (x : ℕ × Outcome) → head limits script t0 ps ≡ Some x → head limits script t0 (ps ++ t ∷ []) ≡ Some x
-head_kept limits script t0 ps t x e = rw (length_push ps t, first_due-push t0 limits.timeout ps t)
-    (earlier_kept (length ps) (first_due t0 limits.timeout ps) (ready_outcome limits script) (Replied (due_reply limits)) (due t0 limits.timeout t) x e)
+pub first_answer_kept : (limits : Limits) (request : Numbered) (t0 : ℕ) (ps : List ℕ) (t : ℕ) (x : ℕ × Outcome) → first_answer limits request t0 ps ≡ Some x → first_answer limits request t0 (ps ++ t ∷ []) ≡ Some x
+first_answer_kept limits request t0 ps t x e = rw (length_push ps t, first_due-push t0 limits.timeout ps t)
+    (earlier_kept (length ps) (first_due t0 limits.timeout ps) (ready_outcome limits request) (Replied (due_reply limits)) (due t0 limits.timeout t) x e)
 
--- no poll, no head
+-- no poll, no first answer
 none_counted : (o : Option (ℕ × Outcome)) → counted 0 o ≡ None
 none_counted None = refl
 none_counted (Some (k, r)) = counted_above 0 k r (omega arith)
 
-pub no_head : (limits : Limits) (script : Numbered) (t0 : ℕ) → head limits script t0 [] ≡ None
-no_head limits script t0 = none_counted (earlier (first_due t0 limits.timeout []) (ready_outcome limits script) (Replied (due_reply limits)))
+pub no_first_answer : (limits : Limits) (request : Numbered) (t0 : ℕ) → first_answer limits request t0 [] ≡ None
+no_first_answer limits request t0 = none_counted (earlier (first_due t0 limits.timeout []) (ready_outcome limits request) (Replied (due_reply limits)))
 
--- the head is one of the polls
-pub head_below : (limits : Limits) (script : Numbered) (t0 : ℕ) (ps : List ℕ) (h : ℕ) (o : Outcome) → head limits script t0 ps ≡ Some (h, o) → h < length ps
-head_below limits script t0 ps h o e = go (earlier (first_due t0 limits.timeout ps) (ready_outcome limits script) (Replied (due_reply limits))) e
+-- the first answer is that of one of the polls
+pub first_answer_below : (limits : Limits) (request : Numbered) (t0 : ℕ) (ps : List ℕ) (h : ℕ) (o : Outcome) → first_answer limits request t0 ps ≡ Some (h, o) → h < length ps
+first_answer_below limits request t0 ps h o e = go (earlier (first_due t0 limits.timeout ps) (ready_outcome limits request) (Replied (due_reply limits))) e
   where
     go : (x : Option (ℕ × Outcome)) → counted (length ps) x ≡ Some (h, o) → h < length ps
     go None e' = absurd (some≢none (sym e'))

@@ -7,8 +7,8 @@ use Rattle.life_core.specs.declared.event.Event.{Event}
 use Rattle.life_script.specs.Headers.{Headers, map_of}
 use Rattle.life_script.specs.Valid.{ScriptFits}
 use Rattle.life_script.specs.declared.checks.TheConstants.{MAX_HEADER_VALUES}
-use Rattle.life_script.specs.ScriptView.{ScriptView}
-use Rattle.life_script.specs.Views.{ReplyView}
+use Rattle.life_script.specs.Scenario.{ScriptView}
+use Rattle.life_script.specs.Reply.{ReplyView}
 use Rattle.life_script.specs.declared.scenario.BodyItem.{BodyItem}
 use Rattle.life_script.specs.declared.scenario.PollItem.{PollItem}
 use Rattle.life_script.specs.declared.scenario.Then.{Then}
@@ -30,13 +30,13 @@ abbrev pub Head : Type 0
 Head = ℕ × Headers
 
 -- a head with this status and these headers
-pub record TellsHead (h : Head) (head : ResponseHead Ext) : Type 0 where
+pub record IsHead (h : Head) (head : ResponseHead Ext) : Type 0 where
   pub status_is : head.parts.status ≡ h.0
   pub headers_are : head.parts.headers ≡ map_of h.1
 
 -- the same, where the list is short enough for a map, as those of a valid scenario are
 abbrev pub Heads : Head → ResponseHead Ext → Type 0
-Heads h head = TellsHead h head × (length h.1 ≤ MAX_HEADER_VALUES)
+Heads h head = IsHead h head × (length h.1 ≤ MAX_HEADER_VALUES)
 
 -- the items of a body, and whether it tells its end
 pub record BodyPlan : Type 0 where
@@ -67,20 +67,20 @@ abbrev pub ScriptStands : ℕ → ScriptView → ScriptFuture → Where → Type
 ScriptStands left script = StandsBy script.call left script
 
 -- what the scripted service says at an item, or at none
-abbrev pub then_tells : Then → Said Head BodyPlan (Fault (List ℕ))
-then_tells then_.Pending = Waits
-then_tells (then_.Panic text) = Fails (fault.Panicked text)
-then_tells (then_.Fail error) = Fails (fault.Err error)
-then_tells (then_.Respond reply) = reply_says reply
+abbrev pub then_gives : Then → Said Head BodyPlan (Fault (List ℕ))
+then_gives then_.Pending = Waits
+then_gives (then_.Panic text) = Fails (fault.Panicked text)
+then_gives (then_.Fail error) = Fails (fault.Err error)
+then_gives (then_.Respond reply) = reply_says reply
 
-abbrev pub item_tells : Option PollItem → Said Head BodyPlan (Fault (List ℕ))
-item_tells None = Waits
-item_tells (Some item) = then_tells item.then
+abbrev pub item_gives : Option PollItem → Said Head BodyPlan (Fault (List ℕ))
+item_gives None = Waits
+item_gives (Some item) = then_gives item.then
 
 -- a panic of the call is told first
-abbrev pub call_tells : CallItem → Option PollItem → Said Head BodyPlan (Fault (List ℕ))
-call_tells call_item.Serve o = item_tells o
-call_tells (call_item.Panic text) o = Fails (fault.Panicked text)
+abbrev pub call_gives : CallItem → Option PollItem → Said Head BodyPlan (Fault (List ℕ))
+call_gives call_item.Serve o = item_gives o
+call_gives (call_item.Panic text) o = Fails (fault.Panicked text)
 
 abbrev pub call_hands : CallItem → ℕ → ScriptView → ℕ → List Event
 call_hands call_item.Serve left script k = handed_from left script.body (asked_before script.polls k) (asks_of (slice_get script.polls k))
@@ -88,7 +88,7 @@ call_hands (call_item.Panic text) left script k = []
 
 abbrev pub script_history : ℕ → ScriptView → FutureHistory Head BodyPlan (Fault (List ℕ))
 script_history left script = record {
-  says = λ past t. call_tells script.call (slice_get script.polls (length past));
+  says = λ past t. call_gives script.call (slice_get script.polls (length past));
   events = λ past t. call_hands script.call left script (length past);
   left = λ past t. [];
 }

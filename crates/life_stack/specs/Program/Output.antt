@@ -1,6 +1,6 @@
--- What a run is due to write, and with which status.
+-- The output of a run: what it is to write, and with which status.
 use Rattle.std.specs.Prelude.{◌≡◌, ℕ, ◌+◌, List, [], length, Option, Some, None, Err, ◌⊎◌}
-use Rattle.life_script.specs.ScriptView.{ScenarioView}
+use Rattle.life_script.specs.Scenario.{ScenarioView}
 use Rattle.life_script.specs.declared.scenario.Limits.{Limits}
 use Rattle.life_script.specs.declared.error.DriveError.{DriveError}
 use Rattle.life_script.specs.Reading.{Reads, IsBadScenario, IsNotBuilt}
@@ -35,19 +35,19 @@ pub record IsRefusal (bytes text : List ℕ) : Type 0 where
 abbrev pub IsUnread : List ℕ → List ℕ → Type 0
 IsUnread bytes text = (IsBadScenario bytes × (text ≡ bad_scenario_line)) ⊎ (IsNotBuilt bytes × (text ≡ not_built_line))
 
--- the status and the text that are due for the bytes that a source gave to its end
-abbrev pub IsDueFor : List ℕ → Status → List ℕ → Type 0
-IsDueFor bytes Done text = IsReport bytes text
-IsDueFor bytes BadScenario text = IsUnread bytes text
-IsDueFor bytes Refused text = IsRefusal bytes text
-IsDueFor bytes _ text = ⊥
+-- the status and the text for the bytes that a source gave to its end
+abbrev pub IsOutputFor : List ℕ → Status → List ℕ → Type 0
+IsOutputFor bytes Done text = IsReport bytes text
+IsOutputFor bytes BadScenario text = IsUnread bytes text
+IsOutputFor bytes Refused text = IsRefusal bytes text
+IsOutputFor bytes _ text = ⊥
 
--- the status and the text that are due on a command, where these bytes were taken from a source that has this left;
--- a fault and want of memory are never due
-abbrev pub IsDue : Option Command → List ℕ → Option (List ℕ) → Status → List ℕ → Type 0
-IsDue command taken left Usage text = (command ≡ None) × (taken ≡ []) × (text ≡ usage_line)
-IsDue command taken left TooLong text = (command ≡ Some Drive) × (length taken ≡ most_bytes + 1) × (text ≡ too_long_line)
-IsDue command taken left BadScenario text = (command ≡ Some Drive) × IsWhole taken left × IsUnread taken text
-IsDue command taken left Refused text = (command ≡ Some Drive) × IsWhole taken left × IsRefusal taken text
-IsDue command taken left Done text = (command ≡ Some Drive) × IsWhole taken left × IsReport taken text
-IsDue command taken left _ text = ⊥
+-- the status and the text on a command, where these bytes were taken from a source that has this left; a fault and want of
+-- memory have none
+abbrev pub IsOutput : Option Command → List ℕ → Option (List ℕ) → Status → List ℕ → Type 0
+IsOutput command taken left Usage text = (command ≡ None) × (taken ≡ []) × (text ≡ usage_line)
+IsOutput command taken left TooLong text = (command ≡ Some Drive) × (length taken ≡ most_bytes + 1) × (text ≡ too_long_line)
+IsOutput command taken left BadScenario text = (command ≡ Some Drive) × IsWhole taken left × IsUnread taken text
+IsOutput command taken left Refused text = (command ≡ Some Drive) × IsWhole taken left × IsRefusal taken text
+IsOutput command taken left Done text = (command ≡ Some Drive) × IsWhole taken left × IsReport taken text
+IsOutput command taken left _ text = ⊥

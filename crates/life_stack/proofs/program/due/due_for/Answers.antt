@@ -1,4 +1,0 @@
-use Rattle.life_stack.proofs.program.due.due_for.Goals as goal
-
-pub returns-in-Ok : goal.returns-in-Ok
-returns-in-Ok c = c.due_of.ensures c.args.bytes.now c.in-Ok.ensures.read
