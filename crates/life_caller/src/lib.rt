@@ -22,3 +22,6 @@ pub fn guarded<S: Drop>(alloc: Global, service: S, limit: u64) -> Got<Guarded<S>
         .layer(CatchPanicLayer::new())
         .service(alloc, service)
 }
+
+#[cfg(test)]
+mod tests;

@@ -3,11 +3,12 @@ ghost use Rattle.life_stack.specs.Stack.Driven.{BodyMay, StackMay};
 
 use crate::asserting::number_is;
 use crate::fixtures::read;
-use life_core::{Cx, Log, Poll, Request, Response};
+use life_core::{Cx, Log, Poll, Request, Response, Twin};
 use life_script::{Limits, Scenario, check};
+use life_session::share;
 use life_stack::{
-    DriveBody, DriveStack, Ext, ScriptBody, abandon_body, abandon_future, call_stack, drive_stack,
-    poll_body, poll_future, script_request,
+    DriveBody, DriveStack, Ext, ScriptBody, ScriptService, abandon_body, abandon_future,
+    call_stack, drive_stack, poll_body, poll_future, script_request,
 };
 use std::alloc::AllocGlobal;
 use std::process::Abort;
@@ -93,4 +94,14 @@ fn call_by_call(rt: HostRuntime) {
     let mut log = Log::new(rt.alloc());
     is_ready(&rt, &limits, &scenario, &mut log);
     number_is(&rt, log.take().len(), 0);
+}
+
+#[test]
+fn twin_of_the_service(rt: HostRuntime) {
+    let (_, scenario) = read(&rt, READY);
+    let scripts = share(rt.alloc(), &scenario.requests).expect(&rt, "memory");
+    let service = ScriptService::new(scripts);
+    let twin = service.twin(rt.alloc()).expect(&rt, "memory");
+    drop(service);
+    drop(twin);
 }
