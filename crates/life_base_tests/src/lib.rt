@@ -12,6 +12,8 @@ mod headers;
 #[cfg(test)]
 mod layers;
 #[cfg(test)]
+mod life;
+#[cfg(test)]
 mod lists;
 #[cfg(test)]
 mod messages;

@@ -155,3 +155,15 @@ fn heads_of_texts(rt: HostRuntime) {
     let want = b"text/plain; charset=utf-8";
     first_is(&rt, &head.parts.headers, &CONTENT_TYPE, Some(want));
 }
+
+#[test]
+fn bodies_mapped(rt: HostRuntime) {
+    let request = Request::new(rt.alloc(), 3u64, 5u64).map(|body| body / 2);
+    let (head, body) = request.into_parts();
+    is(&rt, "the request's body", body, 1);
+    is(&rt, "the request's extension", head.ext, 5);
+    let response = Response::new(rt.alloc(), 3u64, 5u64).map(|body| body / 2);
+    let (head, body) = response.into_parts();
+    is(&rt, "the response's body", body, 1);
+    is(&rt, "the response's extension", head.ext, 5);
+}

@@ -25,14 +25,36 @@ fn fault_written(rt: &impl Abort, alloc: Global, fault: BodyError<u64>, want: &s
     written(rt, alloc, &fault, want);
 }
 
+/// Lengths of time in nanoseconds, and how they are written in a unit.
+const LATENCIES: [(LatencyUnit, u64, &str); 10] = [
+    (LatencyUnit::Seconds, 1_500_000_000, "1.5 s"),
+    (LatencyUnit::Millis, 1_500_000_000, "1500 ms"),
+    (LatencyUnit::Micros, 1_500_000_000, "1500000 μs"),
+    (LatencyUnit::Nanos, 1_500_000_000, "1500000000 ns"),
+    (LatencyUnit::Seconds, 2_000_000_000, "2 s"),
+    (LatencyUnit::Seconds, 1, "0.000000001 s"),
+    (LatencyUnit::Seconds, 0, "0 s"),
+    (LatencyUnit::Millis, 1_999_999, "1 ms"),
+    (LatencyUnit::Micros, 999, "0 μs"),
+    (LatencyUnit::Nanos, 0, "0 ns"),
+];
+
+/// Asserts how a length of time is written in a unit.
+fn latency_written(rt: &impl Abort, alloc: Global, unit: LatencyUnit, nanos: u64, want: &str) {
+    written(rt, alloc, &Latency { unit, nanos }, want);
+}
+
 #[test]
-fn latencies_and_faults_written(rt: HostRuntime) {
+fn latencies_written(rt: HostRuntime) {
     let alloc = rt.alloc();
-    let latency = Latency {
-        unit: LatencyUnit::Nanos,
-        nanos: 2,
-    };
-    written(&rt, alloc, &latency, "2 ns");
+    for &(unit, nanos, want) in &LATENCIES {
+        latency_written(&rt, alloc, unit, nanos, want);
+    }
+}
+
+#[test]
+fn faults_written(rt: HostRuntime) {
+    let alloc = rt.alloc();
     let want = "data was not received within the designated timeout";
     fault_written(&rt, alloc, BodyError::Elapsed, want);
     fault_written(&rt, alloc, BodyError::LengthLimit, "length limit exceeded");
@@ -106,10 +128,30 @@ fn bytes_of_a_vector(rt: HostRuntime) {
     bytes_are(&rt, "these very bytes", octets.as_slice(), &[1, 2]);
 }
 
+/// Asserts what a span is: its name, and its one pair.
+fn span_is(rt: &impl Abort, span: &Span, name: &str, key: &str, value: &str) {
+    text_is(rt, "a name", span.name.as_str(), name);
+    let [pair] = span.fields.as_slice() else {
+        panic!(*rt; "not one pair");
+    };
+    text_is(rt, "a key", pair.0.as_str(), key);
+    text_is(rt, "a value", pair.1.as_str(), value);
+    holds(rt, "no headers", span.headers.is_none());
+}
+
+/// Asserts what a twin of a span is.
+fn span_twin_is(rt: &impl Abort, alloc: Global, span: &Span, name: &str, key: &str, value: &str) {
+    let twin = span.twin(alloc).expect(rt, "memory");
+    span_is(rt, &twin, name, key, value);
+}
+
 #[test]
 fn spans(rt: HostRuntime) {
-    let span = Span::new(rt.alloc(), "request").expect(&rt, "memory");
-    text_is(&rt, "a name", span.name().as_str(), "request");
+    let alloc = rt.alloc();
+    let mut span = Span::new(alloc, Level::Debug, "request").expect(&rt, "memory");
+    span.put(alloc, "method", "GET").expect(&rt, "memory");
+    span_is(&rt, &span, "request", "method", "GET");
+    span_twin_is(&rt, alloc, &span, "request", "method", "GET");
 }
 
 /// Asserts what a panic said, as far as that is known.

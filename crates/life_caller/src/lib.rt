@@ -15,7 +15,8 @@ pub type Guarded<S> = RequestBodyLimit<CatchPanic<S, DefaultResponseForPanic>>;
 
 /// The service, guarded: a request body has at most `limit` bytes.
 pub fn guarded<S: Drop>(alloc: Global, service: S, limit: u64) -> Got<Guarded<S>>
-    ensures { IfOk result (λ made. made ≡ limit_service (catch_service service default_handler) limit) }
+    ensures { IfOk result (λ made.
+        made ≡ limit_service (catch_service service default_handler) limit) }
 {
     ServiceBuilder::new()
         .layer(RequestBodyLimitLayer::new(limit))

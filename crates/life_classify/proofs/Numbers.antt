@@ -1,7 +1,6 @@
 -- What `parse` reads of a header value is the number that the value tells.
 use Rattle.std.proofs.Common.{◌≡◌, ◌≢◌, ℕ, ℤ, pos, neg_ℤ, ◌<◌, ◌≤◌, List, [], ◌∷◌, length, get_or, Bool, true, false, cond, Some, None, Ok, Err, Result, refl, sym, ap, ◌∙◌, subst, arith, rules}
 use Rattle.std.specs.Prelude.{FitsSigned, nat_lt, nat_le, ◌&&◌, ◌||◌, ◌==◌}
-use Rattle.std.specs.Char.{is_ascii_digit}
 use Rattle.std.specs.Int.{w32}
 use Rattle.std.proofs.lemmas.Int.{to_z-of_z}
 use mir.Val.{to_z, of_z}
@@ -9,11 +8,12 @@ use Rattle.std.specs.List.{list_all}
 use Rattle.std.specs.Result.{result_ok, OkIff}
 use Rattle.std.specs.Str.{all_ascii_digits}
 use Rattle.std.specs.Str.Parse.{ParsesSigned, digits_value}
-use Rattle.std.proofs.lemmas.Bool.{and_parts, and_from, or_right, true≢false, eq-eqb, ltb-true, lt-ltb, leb-true, le-leb, eqb-true}
+use Rattle.std.proofs.lemmas.Bool.{and_parts, and_from, true≢false, eq-eqb, ltb-true, lt-ltb, leb-true, le-leb, eqb-true}
 use Rattle.std.proofs.lemmas.List.Sums.{AllPass-from_list_all}
 use Rattle.std.proofs.lemmas.Str.Parse.{IsNumeralModel, numerals_by_value, tells_all_ascii_digits, parse_signed_plain, parse_signed_plus, parse_signed_minus}
 use Rattle.http_header.specs.FieldValue.{IsVisibleAscii}
 use Rattle.http_header.specs.Token.{is_visible_or_blank}
+use Rattle.life_core.proofs.Digits.{digits_visible}
 use Rattle.life_classify.specs.Number.{is_negative, after_sign, greatest, is_number, signed, number_in}
 
 own : IsNumeralModel (λ digits. all_ascii_digits digits ≡ true) (digits_value 10)
@@ -79,16 +79,6 @@ number_read {E} (b ∷ bs) r p = by_byte (b == 45) (b == 43) refl refl
     by_byte false false t u = rw (t, u) (plain_read (b ∷ bs) r p (not_byte b 43 u) (not_byte b 45 t))
 
 -- digits, and a sign before them, are text
-digit_visible : (b : ℕ) → is_ascii_digit b ≡ true → is_visible_or_blank b ≡ true
-digit_visible b e =
-    let k = and_parts (nat_le 48 b) (nat_le b 57) e in
-    let low = leb-true 48 b k.0 in let high = leb-true b 57 k.1 in
-    or_right (b == 9) _ (and_from _ _ (le-leb 32 b (omega (arith, low))) (lt-ltb b 127 (omega (arith, high))))
-
-digits_visible : (digits : List ℕ) → all_ascii_digits digits ≡ true → list_all is_visible_or_blank digits ≡ true
-digits_visible [] e = refl
-digits_visible (b ∷ bs) e = let k = and_parts (is_ascii_digit b) (all_ascii_digits bs) e in and_from _ _ (digit_visible b k.0) (digits_visible bs k.1)
-
 value_visible : (value : List ℕ) → all_ascii_digits (after_sign value) ≡ true → list_all is_visible_or_blank value ≡ true
 value_visible [] e = refl
 value_visible (b ∷ bs) e = by_byte (b == 45) (b == 43) refl refl e

@@ -1,47 +1,50 @@
 -- The status codes of gRPC: their numbers and names, and sets of them.
-use Rattle.std.specs.Prelude.{ℕ, ℤ, pos, negsuc, ◌^◌, Bool, ◌==◌, bit_and, List, [], ◌∷◌, codes, Option, None, unwrap_or}
-use Rattle.std.specs.List.{find}
+use Rattle.std.specs.Prelude.{ℕ, ℤ, pos, negsuc, ◌^◌, Bool, ◌||◌, ◌==◌, bit_and, List, [], ◌∷◌, codes, Option, None, unwrap_or}
+use Rattle.std.specs.List.{filter, find, list_any}
 use Rattle.life_classify.specs.declared.classify.grpc_errors_as_failures.code.GrpcCode.{GrpcCode}
 use Rattle.life_classify.specs.declared.classify.grpc_errors_as_failures.code.GrpcCode.TheVariants as code
 
-abbrev pub number_of : GrpcCode → ℕ
-number_of code.Ok = 0
-number_of code.Cancelled = 1
-number_of code.Unknown = 2
-number_of code.InvalidArgument = 3
-number_of code.DeadlineExceeded = 4
-number_of code.NotFound = 5
-number_of code.AlreadyExists = 6
-number_of code.PermissionDenied = 7
-number_of code.ResourceExhausted = 8
-number_of code.FailedPrecondition = 9
-number_of code.Aborted = 10
-number_of code.OutOfRange = 11
-number_of code.Unimplemented = 12
-number_of code.Internal = 13
-number_of code.Unavailable = 14
-number_of code.DataLoss = 15
-number_of code.Unauthenticated = 16
+-- the number that gRPC gives a code
+abbrev pub code_number : GrpcCode → ℕ
+code_number code.Ok = 0
+code_number code.Cancelled = 1
+code_number code.Unknown = 2
+code_number code.InvalidArgument = 3
+code_number code.DeadlineExceeded = 4
+code_number code.NotFound = 5
+code_number code.AlreadyExists = 6
+code_number code.PermissionDenied = 7
+code_number code.ResourceExhausted = 8
+code_number code.FailedPrecondition = 9
+code_number code.Aborted = 10
+code_number code.OutOfRange = 11
+code_number code.Unimplemented = 12
+code_number code.Internal = 13
+code_number code.Unavailable = 14
+code_number code.DataLoss = 15
+code_number code.Unauthenticated = 16
 
-abbrev pub name_of : GrpcCode → List ℕ
-name_of code.Ok = codes "Ok"
-name_of code.Cancelled = codes "Cancelled"
-name_of code.Unknown = codes "Unknown"
-name_of code.InvalidArgument = codes "InvalidArgument"
-name_of code.DeadlineExceeded = codes "DeadlineExceeded"
-name_of code.NotFound = codes "NotFound"
-name_of code.AlreadyExists = codes "AlreadyExists"
-name_of code.PermissionDenied = codes "PermissionDenied"
-name_of code.ResourceExhausted = codes "ResourceExhausted"
-name_of code.FailedPrecondition = codes "FailedPrecondition"
-name_of code.Aborted = codes "Aborted"
-name_of code.OutOfRange = codes "OutOfRange"
-name_of code.Unimplemented = codes "Unimplemented"
-name_of code.Internal = codes "Internal"
-name_of code.Unavailable = codes "Unavailable"
-name_of code.DataLoss = codes "DataLoss"
-name_of code.Unauthenticated = codes "Unauthenticated"
+-- the name of the variant
+abbrev pub code_name : GrpcCode → List ℕ
+code_name code.Ok = codes "Ok"
+code_name code.Cancelled = codes "Cancelled"
+code_name code.Unknown = codes "Unknown"
+code_name code.InvalidArgument = codes "InvalidArgument"
+code_name code.DeadlineExceeded = codes "DeadlineExceeded"
+code_name code.NotFound = codes "NotFound"
+code_name code.AlreadyExists = codes "AlreadyExists"
+code_name code.PermissionDenied = codes "PermissionDenied"
+code_name code.ResourceExhausted = codes "ResourceExhausted"
+code_name code.FailedPrecondition = codes "FailedPrecondition"
+code_name code.Aborted = codes "Aborted"
+code_name code.OutOfRange = codes "OutOfRange"
+code_name code.Unimplemented = codes "Unimplemented"
+code_name code.Internal = codes "Internal"
+code_name code.Unavailable = codes "Unavailable"
+code_name code.DataLoss = codes "DataLoss"
+code_name code.Unauthenticated = codes "Unauthenticated"
 
+-- each code once
 abbrev pub all_codes : List GrpcCode
 all_codes =
     code.Ok ∷ code.Cancelled ∷ code.Unknown ∷ code.InvalidArgument ∷ code.DeadlineExceeded ∷ code.NotFound
@@ -50,23 +53,36 @@ all_codes =
 
 -- the code with this number, if there is one
 abbrev pub code_numbered : ℤ → Option GrpcCode
-code_numbered (pos n) = find (λ one. n == number_of one) all_codes
+code_numbered (pos n) = find (λ one. n == code_number one) all_codes
 code_numbered (negsuc n) = None
 
 -- the same, or `Unknown`
 abbrev pub code_of : ℤ → GrpcCode
 code_of number = unwrap_or (code_numbered number) code.Unknown
 
+-- the two are the same code
 abbrev pub is_code : GrpcCode → GrpcCode → Bool
-is_code one other = number_of other == number_of one
+is_code one other = code_number other == code_number one
 
--- A set of codes is a number, in which the bit of a code's number says whether it is in the set.
-abbrev pub has : ℕ → GrpcCode → Bool
-has set one = bit_and set (2 ^ number_of one) == 2 ^ number_of one
+-- whether a code is in a set of codes
+abbrev pub has_code : List GrpcCode → GrpcCode → Bool
+has_code set one = list_any (is_code one) set
+
+-- the set with this code, too
+unfoldable pub with_code : List GrpcCode → GrpcCode → List GrpcCode
+with_code set one = filter (λ other. has_code set other || is_code one other) all_codes
 
 -- the set of `Ok` alone
-abbrev pub ok_alone : ℕ
-ok_alone = 2 ^ number_of code.Ok
+abbrev pub ok_alone : List GrpcCode
+ok_alone = code.Ok ∷ []
+
+-- A set of codes is kept as a number, in which the bit of a code's number says whether it is in the set.
+abbrev pub has_bit : ℕ → GrpcCode → Bool
+has_bit bits one = bit_and bits (2 ^ code_number one) == 2 ^ code_number one
+
+-- the codes of such a number, in the order of their numbers
+unfoldable pub codes_in : ℕ → List GrpcCode
+codes_in bits = filter (has_bit bits) all_codes
 
 -- the names that the bits have in the code
 abbrev pub bit_table : List (List ℕ × ℕ)

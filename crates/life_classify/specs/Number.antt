@@ -4,6 +4,7 @@ use Rattle.std.specs.Prelude.{ℕ, ℤ, pos, neg_ℤ, ◌-◌, ◌^◌, nat_lt, 
 use Rattle.std.specs.Str.{all_ascii_digits}
 use Rattle.std.specs.Str.Parse.{digits_value}
 
+-- whether the first byte is a minus
 abbrev pub is_negative : List ℕ → Bool
 is_negative [] = false
 is_negative (byte ∷ bytes) = byte == 45
@@ -22,6 +23,7 @@ abbrev pub is_number : Bool → List ℕ → Bool
 is_number negative digits =
     nat_lt 0 (length digits) && all_ascii_digits digits && nat_le (digits_value 10 digits) (greatest negative)
 
+-- the number, below zero after a minus
 abbrev pub signed : Bool → ℕ → ℤ
 signed negative n = if negative then neg_ℤ (pos n) else pos n
 

@@ -2,7 +2,7 @@
 use Rattle.std.specs.Prelude.{◌≡◌, ℕ, Bool, ◌&&◌, nat_le, nat_lt, List, ◌++◌, codes, Option, Some, None, Result, Ok, Err, IfOk, if◌then◌else◌}
 use Rattle.std.specs.Range.{range_inclusive_start, range_inclusive_end, range_inclusive_exhausted}
 use Rattle.std.specs.declared.ops.RangeInclusive.{RangeInclusive}
-use Rattle.http.specs.StatusCode.{status_text}
+use Rattle.http.specs.StatusCode.{IsStatusCode, status_text}
 use Rattle.http.specs.declared.response.Parts.{Parts}
 use Rattle.life_core.specs.declared.recorder.NoMemory.{NoMemory}
 use Rattle.life_classify.specs.declared.classify.traits.ClassifiedResponse.{ClassifiedResponse}
@@ -33,24 +33,33 @@ abbrev pub ByText : {C : Type 0} → (List ℕ → C) → Option (List ℕ) → 
 ByText class (Some text) answer = IfOk answer (λ c. c ≡ class text)
 ByText class None answer = IfOk answer (λ c. (text : List ℕ) × (c ≡ class text))
 
--- the texts of the two kinds of failure
+-- the text of a failure by status
 abbrev pub status_class_text : ℕ → List ℕ
 status_class_text status = codes "Status code: " ++ status_text status
 
+-- the text of a failure by an error that shows this text
 abbrev pub error_class_text : List ℕ → List ℕ
 error_class_text text = codes "Error: " ++ text
 
+-- the text of a failure that `ServerErrorsAsFailures` told
 abbrev pub server_class_text : ServerErrorsFailureClass → Option (List ℕ)
 server_class_text (server.StatusCode status) = Some (status_class_text status)
 server_class_text (server.Error text) = Some (error_class_text text)
 
+-- the text of a failure that `StatusInRangeAsFailures` told
 abbrev pub ranged_class_text : StatusInRangeFailureClass → Option (List ℕ)
 ranged_class_text (ranged.StatusCode status) = Some (status_class_text status)
 ranged_class_text (ranged.Error text) = Some (error_class_text text)
 
+-- the one classifier of its kind
 abbrev pub server_errors : ServerErrorsAsFailures
 server_errors = record { _priv = tt }
 
+-- both ends of the range are status codes: from 100 to 999
+abbrev pub HasStatusEnds : RangeInclusive ℕ → Type 0
+HasStatusEnds range = IsStatusCode (range_inclusive_start range) × IsStatusCode (range_inclusive_end range)
+
+-- the classifier by this range
 abbrev pub failures_in : RangeInclusive ℕ → StatusInRangeAsFailures
 failures_in range = record { range = range }
 

@@ -15,8 +15,8 @@ no_room m full = ⊎_elim
     (λ names. or_left (nat_le 24576 (length m)) (nat_le (2 ^ 64) (value_count m + 1)) (le-leb 24576 (length m) names))
     (λ values. or_right (nat_le 24576 (length m)) (nat_le (2 ^ 64) (value_count m + 1)) (le-leb (2 ^ 64) (value_count m + 1) values)) full
 
-full_of : (m : Entries FieldValue) → has_no_room m ≡ true → IsFullOfNames m
-full_of m e = elim (or_cases (nat_le 24576 (length m)) (nat_le (2 ^ 64) (value_count m + 1)) e) [
+full_where : (m : Entries FieldValue) → has_no_room m ≡ true → IsFullOfNames m
+full_where m e = elim (or_cases (nat_le 24576 (length m)) (nat_le (2 ^ 64) (value_count m + 1)) e) [
   | inl names ↦ inl (leb-true 24576 (length m) names)
   | inr values ↦ inr (leb-true (2 ^ 64) (value_count m + 1) values)
 ]
@@ -34,7 +34,7 @@ module _ (m : Entries FieldValue) (name : List ℕ) where
   full_is r = rw (absent (index_of m name) (index_of_cases m name) r.0) (no_room m r.1)
 
   refuses_is : is_full_for m name ≡ true → RefusesInsert m name
-  refuses_is e = let parts = and_parts _ _ e in (missing (index_of m name) (index_of_cases m name) parts.0, full_of m parts.1)
+  refuses_is e = let parts = and_parts _ _ e in (missing (index_of m name) (index_of_cases m name) parts.0, full_where m parts.1)
 
   room_is : ¬ (RefusesInsert m name) → is_full_for m name ≡ false
   room_is room = elim (cases_Bool (is_full_for m name)) [ inl full ↦ absurd (room (refuses_is full)) | inr free ↦ free ]

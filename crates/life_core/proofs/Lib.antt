@@ -1,8 +1,10 @@
 pub mod Bodies
-pub mod Due
+pub mod Digits
 pub mod FieldLaws
-pub mod FieldPlaces
+pub mod FieldOrder
+pub mod Fractions
 pub mod Growth
 pub mod Headers
 pub mod Pieces
 pub mod Showing
+pub mod Timers

@@ -14,15 +14,19 @@ use Rattle.life_core.specs.Recorded.{Recorded}
 abbrev pub Steps : Type 0 → Type 0 → Type 1
 Steps S A = S → Recorded → Moment → A → S → Recorded → Type 0
 
+-- a poll of a future
 abbrev pub Polls : Type 0 → Type 0 → Type 1
 Polls F A = Steps F (Result (Poll A) NoMemory)
 
+-- the answer of a body's poll: a frame or a fault, the end, or nothing yet; or want of memory
 abbrev pub Answer : Type 0 → Type 0 → Type 0
 Answer D E = Result (Poll (Option (Result (Frame D) E))) NoMemory
 
+-- a poll of a body for its next frame
 abbrev pub Frames : Type 0 → Type 0 → Type 0 → Type 1
 Frames B D E = Steps B (Answer D E)
 
+-- a poll for a service's readiness
 abbrev pub Readies : Type 0 → Type 0 → Type 1
 Readies S E = Steps S (Poll (Result Unit E))
 
@@ -36,6 +40,11 @@ pub record Forwards {S I E : Type 0} (inner : S → I) (with_inner : S → I →
 abbrev pub Calls : Type 0 → Type 0 → Type 0 → Type 1
 Calls S R F = S → R → Recorded → Moment → Result F NoMemory → S → Recorded → Type 0
 
+-- the inner call, and a future that stands so over what it gave
+abbrev pub CallsOver : {S R F G : Type 0} → Calls S R F → (F → G → Type 0) → Calls S R G
+CallsOver {F = F} calls Over old req was m (Ok f) new now = (given : F) × calls old req was m (Ok given) new now × Over given f
+CallsOver calls Over old req was m (Err e) new now = calls old req was m (Err e) new now
+
 -- State and recorder before, when, the answer, the recorder after.
 abbrev pub Abandons : Type 0 → Type 1
 Abandons S = S → Recorded → Moment → Result Unit NoMemory → Recorded → Type 0
@@ -47,7 +56,11 @@ spent (Err e) = Err e
 
 -- it is abandoned, whatever that answers
 abbrev pub Abandoned : {S : Type 0} → Abandons S → S → Recorded → Moment → Recorded → Type 0
-Abandoned abandons s was m now = (left : Result Unit NoMemory) × abandons s was m left now
+Abandoned abandons s was m now = (answer : Result Unit NoMemory) × abandons s was m answer now
+
+-- there is nothing to abandon, so it always succeeds and records nothing
+abbrev pub NothingToAbandon : {S : Type 0} → Abandons S
+NothingToAbandon old was m answer now = (answer ≡ Ok tt) × (now ≡ was)
 
 -- what is there is abandoned
 abbrev pub AbandonsIfAny : {F : Type 0} → Abandons F → Option F → Recorded → Moment → Result Unit NoMemory → Recorded → Type 0

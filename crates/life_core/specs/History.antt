@@ -21,7 +21,7 @@ pub record BodyHistory (D E : Type 0) : Type 0 where
   pub frame : List ℕ → ℕ → Poll (Option (Result (Frame D) E))
   pub events : List ℕ → ℕ → List Event
   pub ends : List ℕ → Bool
-  pub left : List ℕ → ℕ → List Event
+  pub abandoned : List ℕ → ℕ → List Event
 
 -- what a future answers: nothing yet, a response by its head and the plan of its body, or an error
 pub data Said (H P X : Type 0) : Type 0 where
@@ -45,11 +45,11 @@ said_with f (Fails x) = Fails x
 pub record FutureHistory (H P X : Type 0) : Type 0 where
   pub says : List ℕ → ℕ → Said H P X
   pub events : List ℕ → ℕ → List Event
-  pub left : List ℕ → ℕ → List Event
+  pub abandoned : List ℕ → ℕ → List Event
 
 -- a response at the first poll, with nothing recorded
 abbrev pub answers_at_once : {H P X : Type 0} → H → P → FutureHistory H P X
-answers_at_once head p = record { says = λ past t. Gives head p; events = λ past t. []; left = λ past t. [] }
+answers_at_once head p = record { says = λ past t. Gives head p; events = λ past t. []; abandoned = λ past t. [] }
 
 -- this response at once where the layer answers in the inner value's place, else the inner answers
 abbrev pub answers_instead : {H P X : Type 0} → Bool → H → P → FutureHistory H P X → FutureHistory H P X
@@ -66,13 +66,15 @@ pub data Where : Type 0 where
   Waiting : List ℕ → Where
   Answered : Where
 
+-- where a future is after one more poll with this answer
 abbrev pub where_after : {A : Type 0} → List ℕ → ℕ → Poll A → Where
 where_after past t Pending = Waiting (t ∷ past)
 where_after past t (Ready a) = Answered
 
-abbrev pub left_at : {H P X : Type 0} → FutureHistory H P X → Where → ℕ → List Event
-left_at h (Waiting past) t = h.left past t
-left_at h Answered t = []
+-- what abandoning it records where it is: nothing once it has answered
+abbrev pub abandoned_at : (List ℕ → ℕ → List Event) → Where → ℕ → List Event
+abandoned_at abandoned (Waiting past) t = abandoned past t
+abandoned_at abandoned Answered t = []
 
 -- these events were recorded, which used at most as much room
 pub record Grew (was now : Recorded) (es : List Event) : Type 0 where
@@ -89,15 +91,15 @@ pub record Adds (was now : Recorded) (es : List Event) : Type 0 where
   pub numbers : NumbersStay was now
 
 -- the answer is what is said; Heads ties a response's head to what is said of it, Stands its body to its plan
-abbrev pub Matches : {H P B X E : Type 0} → (H → ResponseHead X → Type 0) → (P → B → List ℕ → Type 0) → Said H P E → Poll (Result (Response B X) E) → Type 0
-Matches Heads Stands Waits Pending = ⊤
-Matches Heads Stands (Gives h p) (Ready (Ok r)) = Heads h r.head × Stands p r.body []
-Matches Heads Stands (Fails x) (Ready (Err e)) = e ≡ x
-Matches Heads Stands Waits (Ready a) = ⊥
-Matches Heads Stands (Gives h p) Pending = ⊥
-Matches Heads Stands (Gives h p) (Ready (Err e)) = ⊥
-Matches Heads Stands (Fails x) Pending = ⊥
-Matches Heads Stands (Fails x) (Ready (Ok r)) = ⊥
+abbrev pub IsSaid : {H P B X E : Type 0} → (H → ResponseHead X → Type 0) → (P → B → List ℕ → Type 0) → Said H P E → Poll (Result (Response B X) E) → Type 0
+IsSaid Heads Stands Waits Pending = ⊤
+IsSaid Heads Stands (Gives h p) (Ready (Ok r)) = Heads h r.head × Stands p r.body []
+IsSaid Heads Stands (Fails x) (Ready (Err e)) = e ≡ x
+IsSaid Heads Stands Waits (Ready a) = ⊥
+IsSaid Heads Stands (Gives h p) Pending = ⊥
+IsSaid Heads Stands (Gives h p) (Ready (Err e)) = ⊥
+IsSaid Heads Stands (Fails x) Pending = ⊥
+IsSaid Heads Stands (Fails x) (Ready (Ok r)) = ⊥
 
 -- one poll of a body answers and records by its history
 pub record FrameSteps {P B D E : Type 0} (Stands : P → B → List ℕ → Type 0) (h : BodyHistory D E) (p : P) (past : List ℕ)
@@ -111,16 +113,16 @@ pub record BodyFollows {P B D E : Type 0} (frames : Frames B D E) (abandons : Ab
     (Stands : P → B → List ℕ → Type 0) (history : P → BodyHistory D E) : Type 0 where
   pub tells : (p : P) (b : B) (past : List ℕ) → Stands p b past → ends b ≡ (history p).ends past
   pub frame : (p : P) (past : List ℕ) (b : B) (was : Recorded) (m : Moment) (a : Poll (Option (Result (Frame D) E))) (new : B) (now : Recorded) →
-      Latest m.now past → Stands p b past → frames b was m (Ok a) new now → FrameSteps Stands (history p) p past was m.now a new now
-  pub left : (p : P) (past : List ℕ) (b : B) (was : Recorded) (m : Moment) (u : Unit) (now : Recorded) →
-      Stands p b past → abandons b was m (Ok u) now → Adds was now ((history p).left past m.now)
+      Stands p b past → frames b was m (Ok a) new now → FrameSteps Stands (history p) p past was m.now a new now
+  pub abandoned : (p : P) (past : List ℕ) (b : B) (was : Recorded) (m : Moment) (u : Unit) (now : Recorded) →
+      Stands p b past → abandons b was m (Ok u) now → Adds was now ((history p).abandoned past m.now)
   pub refused : (p : P) (past : List ℕ) (b : B) (was : Recorded) (m : Moment) (e : NoMemory) (now : Recorded) →
-      Stands p b past → abandons b was m (Err e) now → was.spare < length ((history p).left past m.now)
+      Stands p b past → abandons b was m (Err e) now → was.spare < length ((history p).abandoned past m.now)
 
 -- one poll of a future answers and records by its history
 pub record PollSteps {H P F B X E : Type 0} (Heads : H → ResponseHead X → Type 0) (Stands : F → Where → Type 0) (BodyStands : P → B → List ℕ → Type 0) (h : FutureHistory H P E)
     (past : List ℕ) (was : Recorded) (t : ℕ) (a : Poll (Result (Response B X) E)) (new : F) (now : Recorded) : Type 0 where
-  pub answer : Matches Heads BodyStands (h.says past t) a
+  pub answer : IsSaid Heads BodyStands (h.says past t) a
   pub adds : Adds was now (h.events past t)
   pub stands : Stands new (where_after past t a)
 
@@ -129,10 +131,10 @@ pub record FutureFollows {H P F B X E : Type 0} (polls : Polls F (Result (Respon
     (Stands : F → Where → Type 0) (BodyStands : P → B → List ℕ → Type 0) (h : FutureHistory H P E) : Type 0 where
   pub poll : (past : List ℕ) (f : F) (was : Recorded) (m : Moment) (a : Poll (Result (Response B X) E)) (new : F) (now : Recorded) →
       Stands f (Waiting past) → polls f was m (Ok a) new now → PollSteps Heads Stands BodyStands h past was m.now a new now
-  pub left : (w : Where) (f : F) (was : Recorded) (m : Moment) (u : Unit) (now : Recorded) →
-      Stands f w → abandons f was m (Ok u) now → Adds was now (left_at h w m.now)
+  pub abandoned : (w : Where) (f : F) (was : Recorded) (m : Moment) (u : Unit) (now : Recorded) →
+      Stands f w → abandons f was m (Ok u) now → Adds was now (abandoned_at h.abandoned w m.now)
   pub refused : (w : Where) (f : F) (was : Recorded) (m : Moment) (e : NoMemory) (now : Recorded) →
-      Stands f w → abandons f was m (Err e) now → was.spare < length (left_at h w m.now)
+      Stands f w → abandons f was m (Err e) now → was.spare < length (abandoned_at h.abandoned w m.now)
 
 -- a service gives for such a request a future that stands at the time of the call, and serves on as before, also where it is refused
 pub record ServiceFollows {S R F : Type 0} (calls : Calls S R F) (Asks : R → Type 0) (Serves : S → Type 0) (Stands : ℕ → F → Where → Type 0) (events : List Event) : Type 0 where

@@ -6,6 +6,7 @@ pub mod Header
 pub mod History
 pub mod Layered
 pub mod Lending
+pub mod Life
 pub mod Limited
 pub mod LimitedHistory
 pub mod List

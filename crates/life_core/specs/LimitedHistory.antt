@@ -34,7 +34,7 @@ limited_history room h = record {
   frame = λ past q. within (room_left room h past) (h.frame past q);
   events = h.events;
   ends = h.ends;
-  left = h.left;
+  abandoned = h.abandoned;
 }
 
 -- the plan keeps the room at the start

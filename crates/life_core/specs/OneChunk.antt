@@ -14,14 +14,14 @@ pub record TellsChunk {E : Type 0} (chunk : List ℕ) (h : BodyHistory (List ℕ
   pub untold : h.ends [] ≡ false
   pub ended : (p : ℕ) (past : List ℕ) → h.ends (p ∷ past) ≡ true
   pub events : (past : List ℕ) (q : ℕ) → h.events past q ≡ []
-  pub left : (past : List ℕ) (q : ℕ) → h.left past q ≡ []
+  pub abandoned : (past : List ℕ) (q : ℕ) → h.abandoned past q ≡ []
 
 -- the end from the start, which is told
 pub record TellsEnd {E : Type 0} (h : BodyHistory (List ℕ) E) : Type 0 where
   pub frame : (past : List ℕ) (q : ℕ) → h.frame past q ≡ Ready None
   pub ends : (past : List ℕ) → h.ends past ≡ true
   pub events : (past : List ℕ) (q : ℕ) → h.events past q ≡ []
-  pub left : (past : List ℕ) (q : ℕ) → h.left past q ≡ []
+  pub abandoned : (past : List ℕ) (q : ℕ) → h.abandoned past q ≡ []
 
 -- a chunk is there until the first poll
 abbrev pub ChunkStands : {E : Type 0} → BodyHistory (List ℕ) E → Option (List ℕ) → List ℕ → Type 0
@@ -30,6 +30,7 @@ ChunkStands h (Some chunk) (p ∷ past) = ⊥
 ChunkStands h None [] = TellsEnd h
 ChunkStands h None (p ∷ past) = TellsEnd h ⊎ ((chunk : List ℕ) × TellsChunk chunk h)
 
+-- its chunk is there until the first poll
 abbrev pub FullStands : {P E : Type 0} → (P → BodyHistory (List ℕ) E) → P → Full → List ℕ → Type 0
 FullStands h p b past = ChunkStands (h p) b.chunk past
 

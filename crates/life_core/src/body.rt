@@ -67,7 +67,8 @@ pub trait Body<L: Recorder>: Spend<L> {
         cx: &mut Cx<'_, L>,
     ) -> Got<Poll<Option<Result<Frame<Self::Data>, Self::Error>>>>
         requires { Self.may self.old }
-        ensures frames { frames self.old (L.recorded cx.old.rec.now) (moment_of cx.old) result self.new (L.recorded cx.new.rec.now) }
+        ensures frames { frames self.old (L.recorded cx.old.rec.now) (moment_of cx.old) result
+            self.new (L.recorded cx.new.rec.now) }
         ensures may { Self.may self.new }
         ensures context { SameContext L.place cx.old cx.new };
 

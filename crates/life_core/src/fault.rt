@@ -9,7 +9,9 @@ use std::alloc::Global;
 /// What a panic said, where that is a text.
 #[derive(Debug, Drop)]
 pub enum PanicText {
+    /// The panic said this.
     Known(Text),
+    /// What it said is no text.
     Unknown,
 }
 
@@ -25,6 +27,8 @@ impl Twin for PanicText {
 /// What may be answered in place of a response: a panic, or an error.
 #[derive(Debug, Drop)]
 pub enum Fault<E> {
+    /// It panicked.
     Panicked(PanicText),
+    /// Its own error.
     Err(E),
 }

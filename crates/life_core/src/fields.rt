@@ -1,13 +1,12 @@
 //! Header fields as they are shown.
-ghost use Rattle.std.specs.Prelude.{◌≡◌, ◌<◌, ◌≤◌, [], false, length, bytes_eq, slice_get, IfOk, OnOk, IfSome, position, option_map, unwrap_or};
-ghost use Rattle.std.specs.FinMap.{put};
-ghost use Rattle.std.specs.Ordering.{is_le};
-ghost use Rattle.life_core.specs.Fields.{fields, values_of, name_cmp, as_shown};
+ghost use Rattle.std.specs.Prelude.{◌≡◌, [], IfOk};
+ghost use Rattle.std.specs.FinMap.{find};
+ghost use Rattle.life_core.specs.Fields.{fields, shown_under, entry_of, name_cmp, as_shown, IsSorted};
 
 use crate::Got;
 use crate::list::List;
-use crate::recorder::NoMemory;
 use crate::text::Octets;
+use crate::twin::Twin;
 use http::{HeaderMap, HeaderName, HeaderValue};
 use std::alloc::Global;
 use std::marker::Model;
@@ -15,6 +14,7 @@ use std::marker::Model;
 /// A header's value as it is shown.
 #[derive(Debug, Drop)]
 pub enum Shown {
+    /// These bytes.
     Plain(Octets),
     /// One that is kept out of sight.
     Sensitive,
@@ -45,10 +45,13 @@ pub struct Fields {
 impl Model for Fields {
     ghost use Rattle.http_header.specs.HeaderMap.{Entries};
     ghost use Rattle.life_core.specs.declared.fields.Shown.{Shown as Showing};
+    ghost use Rattle.life_core.specs.Fields.{IsSorted};
 
     ghost Value = { Entries Showing };
 
     ghost view = { λ f. f.entries.items };
+
+    ghost invariant = { λ f. IsSorted f.entries.items };
 }
 
 /// A value as it is shown: nothing is marked yet.
@@ -61,7 +64,7 @@ fn show(alloc: Global, value: &HeaderValue) -> Got<Shown>
 impl Field {
     /// A name with all its values.
     fn of(alloc: Global, headers: &HeaderMap<HeaderValue>, name: &HeaderName) -> Got<Field>
-        ensures { IfOk result (λ f. f ≡ (name.now, values_of headers.now name.now)) }
+        ensures { IfOk result (λ f. f ≡ entry_of headers.now name.now) }
     {
         let mut values = List::new(alloc);
         for value in headers.get_all(name).iter() {
@@ -86,66 +89,31 @@ impl Field {
     {
         self.values.as_slice()
     }
+}
 
-    /// Whether its name is this one or a greater one.
-    fn is_from(&self, name: &[u8]) -> bool
-        ensures { result ≡ is_le (name_cmp name.now self.now.0) }
-    {
-        name.cmp(self.name.as_slice()).is_le()
+/// An entry of each name that the headers have, in the order of the names.
+fn entries_of(alloc: Global, headers: &HeaderMap<HeaderValue>) -> Got<Vec<Field>>
+    ensures { IfOk result (λ v. v.items ≡ fields headers.now) }
+{
+    let mut entries = Vec::with_capacity(alloc, headers.keys_len())?;
+    for name in headers.keys() {
+        entries.push(Field::of(alloc, headers, name)?)?;
     }
-}
-
-/// The first entry with this name or a greater one.
-fn first_from(entries: &[Field], name: &[u8]) -> Option<usize>
-    ensures value { result ≡ position (λ e. is_le (name_cmp name.now e.0)) entries.now }
-    ensures bound { IfSome result (λ k. k < length entries.now) }
-{
-    entries.iter().position(|entry| entry.is_from(name))
-}
-
-/// Where an entry with this name goes.
-fn place(entries: &[Field], name: &[u8]) -> usize
-    ensures value { result ≡ unwrap_or (position (λ e. is_le (name_cmp name.now e.0)) entries.now) (length entries.now) }
-    ensures bound { result ≤ length entries.now }
-{
-    first_from(entries, name).unwrap_or(entries.len())
-}
-
-/// Whether the entry at this place has this name.
-fn is_there(entries: &[Field], at: usize, name: &[u8]) -> bool
-    ensures { result ≡ unwrap_or (option_map (λ e. bytes_eq name.now e.0) (slice_get entries.now at)) false }
-{
-    match entries.get(at) {
-        Some(entry) => name == entry.name(),
-        None => false,
-    }
+    entries.sort_unstable_by(|a, b| a.name().cmp(b.name()));
+    Ok(entries)
 }
 
 impl Fields {
-    /// The fields of a message.
+    /// The fields of a message: each name that the headers have, with its values in order.
+    #[tactic(auto, using(crate::proofs::FieldLaws::fields_laws))]
     pub fn of(alloc: Global, headers: &HeaderMap<HeaderValue>) -> Got<Fields>
-        ensures { IfOk result (λ f. f ≡ fields headers.now) }
+        ensures shown { IfOk result (λ f. f ≡ fields headers.now) }
+        ensures named { IfOk result (λ f.
+            (name : _) → find name_cmp name f ≡ shown_under headers.now name) }
     {
-        let mut fields = Fields::none(alloc);
-        for name in headers.keys() {
-            fields.put(Field::of(alloc, headers, name)?)?;
-        }
-        Ok(fields)
-    }
-
-    /// Puts an entry at its place, or in place of one of its name.
-    fn put(&mut self, field: Field) -> Got<()>
-        ensures { OnOk result (self.new ≡ put name_cmp field.0 field.1 self.old) }
-    {
-        let at = place(self.entries.as_slice(), field.name());
-        if is_there(self.entries.as_slice(), at, field.name()) {
-            self.entries[at] = field;
-            return Ok(());
-        }
-        match self.entries.insert(at, field) {
-            Ok(()) => Ok(()),
-            Err(_) => Err(NoMemory),
-        }
+        Ok(Fields {
+            entries: entries_of(alloc, headers)?,
+        })
     }
 
     /// No fields. It takes no memory.
@@ -159,8 +127,36 @@ impl Fields {
 
     /// The entries, in the order of their names.
     pub fn as_slice(&self) -> &[Field]
-        ensures { result.now ≡ self.now }
+        ensures value { result.now ≡ self.now }
+        ensures sorted { IsSorted self.now }
     {
         self.entries.as_slice()
+    }
+}
+
+impl Twin for Shown {
+    fn twin(&self, alloc: Global) -> Got<Shown> {
+        match self {
+            Shown::Plain(bytes) => Ok(Shown::Plain(bytes.twin(alloc)?)),
+            Shown::Sensitive => Ok(Shown::Sensitive),
+        }
+    }
+}
+
+impl Twin for Field {
+    fn twin(&self, alloc: Global) -> Got<Field> {
+        let name = self.name.twin(alloc)?;
+        let values = self.values.twin_items(alloc)?;
+        Ok(Field { name, values })
+    }
+}
+
+impl Twin for Fields {
+    fn twin(&self, alloc: Global) -> Got<Fields> {
+        let mut entries = Vec::with_capacity(alloc, self.entries.len())?;
+        for field in self.as_slice() {
+            entries.push(field.twin(alloc)?)?;
+        }
+        Ok(Fields { entries })
     }
 }

@@ -24,7 +24,8 @@ pub trait Future<L: Recorder>: Spend<L> {
     fn poll(&mut self, cx: &mut Cx<'_, L>) -> Got<Poll<Self::Output>>
         requires live { live self.old }
         requires may { Self.may self.old }
-        ensures polls { polls self.old (L.recorded cx.old.rec.now) (moment_of cx.old) result self.new (L.recorded cx.new.rec.now) }
+        ensures polls { polls self.old (L.recorded cx.old.rec.now) (moment_of cx.old) result
+            self.new (L.recorded cx.new.rec.now) }
         ensures live { IfOk result (λ answer. OnPending answer (live self.new)) }
         ensures sound { IfOk result (λ answer. IfReady answer Self.Output.sound) }
         ensures may { Self.may self.new }

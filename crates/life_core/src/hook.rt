@@ -8,6 +8,7 @@ use std::alloc::Global;
 /// A closure where a hook, a validator or a handler is asked for.
 #[derive(Drop)]
 pub struct HookFn<F> {
+    /// What is called.
     pub closure: F,
 }
 

@@ -23,7 +23,10 @@ impl<T> Model for List<T> {
 
     ghost coded = { listed_coded T.code };
 
-    ghost view = { λ l. record { items = l.items.items; spare = vec_capacity l.items - vec_len l.items } };
+    ghost view = { λ l. record {
+      items = l.items.items;
+      spare = vec_capacity l.items - vec_len l.items;
+    } };
 }
 
 impl<T: Drop> Drop for List<T> {
@@ -91,7 +94,7 @@ impl<T> List<T> {
         &mut self.items[i as usize]
     }
 
-    /// Makes room for n more items. The one error is want of memory; the items stay.
+    /// Makes room for n more items. The items stay, also after an error.
     pub fn reserve(&mut self, n: u64) -> Got<()>
         ensures items { self.new.items ≡ self.old.items }
         ensures room { OnOk result (n ≤ self.new.spare) }
@@ -104,8 +107,10 @@ impl<T> List<T> {
 
     /// Takes the last item out, or answers none where there is none. It takes no memory.
     pub fn pop(&mut self) -> Option<T>
-        ensures items { MatchOption result ((self.old.items ≡ []) × (self.new ≡ self.old)) (λ last. self.old.items ≡ self.new.items ++ last ∷ []) }
-        ensures spare { MatchOption result (self.new.spare ≡ self.old.spare) (λ _. self.new.spare ≡ self.old.spare + 1) }
+        ensures items { MatchOption result ((self.old.items ≡ []) × (self.new ≡ self.old))
+            (λ last. self.old.items ≡ self.new.items ++ last ∷ []) }
+        ensures spare { MatchOption result (self.new.spare ≡ self.old.spare)
+            (λ _. self.new.spare ≡ self.old.spare + 1) }
     {
         self.items.pop()
     }

@@ -1,5 +1,5 @@
 //! The recorder in memory.
-ghost use Rattle.std.specs.Prelude.{◌≡◌, []};
+ghost use Rattle.std.specs.Prelude.{◌≡◌, ◌==◌, [], length, if◌then◌else◌};
 
 use crate::Got;
 use crate::event::{DropKind, Event, Events};
@@ -38,12 +38,18 @@ impl Log {
         }
     }
 
-    /// Takes all events out, and leaves an empty log without room. It takes no memory.
+    /// Takes all events out. A log without events keeps its room, and any other is left without room. It takes
+    /// no memory.
     pub fn take(&mut self) -> Events
-        ensures taken { result ≡ self.old }
-        ensures left { self.new ≡ record { items = []; spare = 0 } }
+        ensures taken { result.items ≡ self.old.items }
+        ensures left { self.new.items ≡ [] }
+        ensures room { self.new.spare ≡ (if length self.old.items == 0 then self.old.spare else 0) }
     {
-        std::mem::replace(&mut self.events, List::new(self.alloc))
+        let none = List::new(self.alloc);
+        if self.events.is_empty() {
+            return none;
+        }
+        std::mem::replace(&mut self.events, none)
     }
 }
 

@@ -31,7 +31,7 @@ impl MemorySource {
     /// fail.
     pub fn new(bytes: Octets, most: u64, fails: Calls) -> MemorySource
         requires { 1 ≤ most }
-        ensures { IsNewSource bytes fails.items result }
+        ensures { IsNewSource bytes most fails.items result }
     {
         MemorySource {
             bytes,
@@ -52,13 +52,15 @@ impl MemorySource {
 }
 
 impl Source for MemorySource {
-    ghost use Rattle.life_core.specs.Memory.{never_fails_source};
+    ghost use Rattle.life_core.specs.Memory.{SourceReads, never_fails_source};
 
     ghost rest = { λ s. Some (drop s.at s.bytes) };
 
     ghost faults = { λ s. s.faults };
 
     ghost reliable = { never_fails_source };
+
+    ghost reads = { SourceReads };
 
     fn read(&mut self, buf: &mut [u8]) -> Result<usize, Failed> {
         let call = self.calls;
@@ -93,11 +95,10 @@ impl MemorySink {
     ghost use Rattle.life_core.specs.Memory.{IsNewSink};
 
     /// An empty sink for `room` bytes, which takes at most `most` a call. The calls with the numbers of
-    /// `fails` fail, and so does a write of some bytes where no room is left. The one error is want of
-    /// memory for the room.
+    /// `fails` fail, and so does a write of some bytes where no room is left.
     pub fn new(alloc: Global, room: u64, most: u64, fails: Calls) -> Got<MemorySink>
         requires { 1 ≤ most }
-        ensures { IfOk result (IsNewSink room fails.items) }
+        ensures { IfOk result (IsNewSink room most fails.items) }
     {
         let held = Vec::with_capacity(alloc, room as usize)?;
         Ok(MemorySink {
@@ -126,13 +127,15 @@ impl MemorySink {
 }
 
 impl Sink for MemorySink {
-    ghost use Rattle.life_core.specs.Memory.{never_fails_sink};
+    ghost use Rattle.life_core.specs.Memory.{SinkWrites, never_fails_sink};
 
     ghost held = { λ s. Some s.held.items };
 
     ghost faults = { λ s. s.faults };
 
     ghost reliable = { never_fails_sink };
+
+    ghost writes = { SinkWrites };
 
     fn write(&mut self, buf: &[u8]) -> Result<usize, Failed> {
         let call = self.calls;

@@ -21,14 +21,18 @@ use std::alloc::Global;
 /// All of a request but its body.
 #[derive(Drop)]
 pub struct RequestHead<X> {
+    /// Method, target, version and header fields.
     pub parts: RequestParts,
+    /// What else is carried.
     pub ext: X,
 }
 
 /// A request with a body of type `B` and an extension of type `X`.
 #[derive(Drop)]
 pub struct Request<B, X> {
+    /// All but the body.
     pub head: RequestHead<X>,
+    /// The body.
     pub body: B,
 }
 
@@ -64,6 +68,19 @@ impl<B, X> Request<B, X> {
     {
         let Request { head, body } = self;
         (head, body)
+    }
+
+    /// The request with the body that `f` makes of its own.
+    pub fn map<C, F: FnOnce(B) -> C>(self, f: F) -> Request<C, X>
+        requires { F.pre f self.body }
+        ensures head { result.head ≡ self.head }
+        ensures body { F.post f self.body result.body }
+    {
+        let Request { head, body } = self;
+        Request {
+            head,
+            body: f(body),
+        }
     }
 
     /// The method.
@@ -214,7 +231,8 @@ pub fn abandon_request<B: Spend<L>, X: Drop, L: Recorder>(
     cx: &mut Cx<'_, L>,
 ) -> NoMemory
     requires { B.may request.body }
-    ensures left { Abandoned B.abandons request.body (L.recorded cx.old.rec.now) (moment_of cx.old) (L.recorded cx.new.rec.now) }
+    ensures abandoned { Abandoned B.abandons request.body (L.recorded cx.old.rec.now)
+        (moment_of cx.old) (L.recorded cx.new.rec.now) }
     ensures context { SameContext L.place cx.old cx.new }
 {
     let Request { head: _, body } = request;
@@ -225,7 +243,9 @@ pub fn abandon_request<B: Spend<L>, X: Drop, L: Recorder>(
 /// All of a response but its body.
 #[derive(Drop)]
 pub struct ResponseHead<X> {
+    /// Status, version and header fields.
     pub parts: ResponseParts,
+    /// What else is carried.
     pub ext: X,
 }
 
@@ -270,7 +290,9 @@ impl<X> ResponseHead<X> {
 
 /// A response with a body of type `B` and an extension of type `X`.
 pub struct Response<B, X> {
+    /// All but the body.
     pub head: ResponseHead<X>,
+    /// The body.
     pub body: B,
 }
 
@@ -306,6 +328,19 @@ impl<B, X> Response<B, X> {
     {
         let Response { head, body } = self;
         (head, body)
+    }
+
+    /// The response with the body that `f` makes of its own.
+    pub fn map<C, F: FnOnce(B) -> C>(self, f: F) -> Response<C, X>
+        requires { F.pre f self.body }
+        ensures head { result.head ≡ self.head }
+        ensures body { F.post f self.body result.body }
+    {
+        let Response { head, body } = self;
+        Response {
+            head,
+            body: f(body),
+        }
     }
 
     /// The status.

@@ -3,6 +3,8 @@
 /// An answer, or none yet.
 #[derive(Debug)]
 pub enum Poll<T> {
+    /// The answer.
     Ready(T),
+    /// None yet.
     Pending,
 }

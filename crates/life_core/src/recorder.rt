@@ -31,7 +31,7 @@ pub trait Recorder {
     /// The `&mut` references that it holds, which every call leaves in place.
     ghost place: { Self → List GName };
 
-    /// Makes room for n more events. The one error is want of memory; no event is recorded.
+    /// Makes room for n more events. No event is recorded, also after an error.
     fn reserve(&mut self, n: u64) -> Got<()>
         ensures reserves { Reserves (recorded self.old) n result (recorded self.new) }
         ensures place { place self.new ≡ place self.old };

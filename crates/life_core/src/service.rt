@@ -29,16 +29,17 @@ pub trait Service<R: Sound<L>, L: Recorder> {
 
     /// Asks whether it is ready to be called. It takes no memory.
     fn poll_ready(&mut self, cx: &mut Cx<'_, L>) -> Poll<Result<(), Self::Error>>
-        ensures readies { readies self.old (L.recorded cx.old.rec.now) (moment_of cx.old) result self.new (L.recorded cx.new.rec.now) }
+        ensures readies { readies self.old (L.recorded cx.old.rec.now) (moment_of cx.old) result
+            self.new (L.recorded cx.new.rec.now) }
         ensures may { may self.old → may self.new }
         ensures context { SameContext L.place cx.old cx.new };
 
-    /// A future for this request. The one error is want of memory, which leaves a service that may be
-    /// called again.
+    /// A future for this request. An error leaves a service that may be called again.
     fn call(&mut self, req: R, cx: &mut Cx<'_, L>) -> Got<Self::Future>
         requires may { may self.old }
         requires sound { R.sound req }
-        ensures calls { calls self.old req (L.recorded cx.old.rec.now) (moment_of cx.old) result self.new (L.recorded cx.new.rec.now) }
+        ensures calls { calls self.old req (L.recorded cx.old.rec.now) (moment_of cx.old) result
+            self.new (L.recorded cx.new.rec.now) }
         ensures may { may self.new }
         ensures live { IfOk result Self.Future.live }
         ensures future_may { IfOk result Self.Future.may }

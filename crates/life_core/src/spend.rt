@@ -16,10 +16,11 @@ pub trait Spend<L: Recorder> {
     /// What abandoning it means.
     ghost abandons: { Abandons Self };
 
-    /// Gives it up. It is spent whatever is answered; the one error is want of memory.
+    /// Gives it up. It is spent whatever is answered.
     fn abandon(self, cx: &mut Cx<'_, L>) -> Got<()>
         requires { may self }
-        ensures abandons { abandons self (L.recorded cx.old.rec.now) (moment_of cx.old) result (L.recorded cx.new.rec.now) }
+        ensures abandons { abandons self (L.recorded cx.old.rec.now) (moment_of cx.old) result
+            (L.recorded cx.new.rec.now) }
         ensures context { SameContext L.place cx.old cx.new };
 }
 

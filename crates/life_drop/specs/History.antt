@@ -4,7 +4,6 @@ use Rattle.life_core.specs.History.{BodyHistory, said_under, FutureHistory, Wher
 use Rattle.life_core.specs.declared.event.Event.{Event}
 use Rattle.life_drop.specs.declared.on_early_drop.body.OnEarlyDropBody.{OnEarlyDropBody}
 use Rattle.life_drop.specs.declared.on_early_drop.future.OnEarlyDropFuture.{OnEarlyDropFuture}
-use Rattle.life_drop.specs.declared.on_early_drop.service.OnEarlyDropService.{OnEarlyDropService}
 use Rattle.life_drop.specs.EarlyBody.{is_ending_frame}
 use Rattle.life_drop.specs.Guard.{callback_of}
 
@@ -13,6 +12,7 @@ abbrev pub future_guard : {C : Type 0} → C → Where → Option C
 future_guard callback (Waiting past) = Some callback
 future_guard callback Answered = None
 
+-- the hook's intermediate is kept until the answer
 abbrev pub BegunIs : {I : Type 0} → I → Option I → Where → Type 0
 BegunIs begun kept (Waiting past) = kept ≡ Some begun
 BegunIs begun kept Answered = ⊤
@@ -28,7 +28,7 @@ abbrev pub drop_history : {H P X : Type 0} → (ℕ → List Event) → FutureHi
 drop_history fired h = record {
   says = λ past t. said_under (λ head p. (head, p)) (h.says past t);
   events = h.events;
-  left = λ past t. h.left past t ++ fired t;
+  abandoned = λ past t. h.abandoned past t ++ fired t;
 }
 
 -- whether an answer so far was an ending one
@@ -36,11 +36,13 @@ abbrev pub ended : {D E : Type 0} → BodyHistory D E → List ℕ → Bool
 ended h [] = h.ends []
 ended h (q ∷ past) = ended h past || is_ending_frame (h.frame past q) (h.ends (q ∷ past))
 
--- a body whose guard holds its callback until an ending answer
+-- a body that is done, and whose guard holds no callback, once an ending answer came
 pub record DropBodyStands {G P B C D E : Type 0} (callback : G → C) (h : P → BodyHistory D E) (Stands : P → B → List ℕ → Type 0) (p : G × P) (b : OnEarlyDropBody B C) (past : List ℕ) : Type 0 where
   pub guard_is : callback_of b.guard ≡ (if ended (h p.1) past then None else Some (callback p.0))
+  pub done_is : b.life.done ≡ ended (h p.1) past
   pub inner : Stands p.1 b.inner past
 
+-- nothing where an ending answer came
 abbrev pub unless_ended : Bool → List Event → List Event
 unless_ended true es = []
 unless_ended false es = es
@@ -51,8 +53,5 @@ drop_body_history fired h p = record {
   frame = (h p.1).frame;
   events = (h p.1).events;
   ends = (h p.1).ends;
-  left = λ past q. (h p.1).left past q ++ unless_ended (ended (h p.1) past) (fired p.0 q);
+  abandoned = λ past q. (h p.1).abandoned past q ++ unless_ended (ended (h p.1) past) (fired p.0 q);
 }
-
-abbrev pub DropServes : {S A H : Type 0} → (S → Type 0) → OnEarlyDropService S A H → Type 0
-DropServes Serves s = Serves s.inner

@@ -1,7 +1,9 @@
+pub mod Closures
 pub mod EarlyBody
 pub mod EarlyFuture
 pub mod EarlyService
+pub mod Failure
 pub mod Guard
 pub mod History
-pub mod Lending
+pub mod Noop
 pub mod Note

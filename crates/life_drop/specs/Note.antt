@@ -22,17 +22,22 @@ drop_record what nanos = Dropped what (record { unit = Nanos; nanos = nanos })
 abbrev pub noting : DropKind → ℕ → NoteDropped
 noting what start = record { what = what; start = start }
 
+-- what it records at this time
 abbrev pub noted : NoteDropped → ℕ → Event
 noted c now = drop_record c.what (since c.start now)
 
+-- the drop is recorded, or refused where there is no room
 abbrev pub NotesDrop : NoteDropped → ℕ → Recorded → Result Unit NoMemory → Recorded → Type 0
 NotesDrop c now old answer new = Notes old (noted c now) answer new
 
+-- a callback that tells the drop of a future, since the call
 abbrev pub NotesFuture : {B X : Type 0} → NoteDrop → Request B X → Moment → Result NoteDropped NoMemory → NoteDrop → Type 0
 NotesFuture old request m answer new = answer ≡ Ok (noting Future m.now)
 
+-- it keeps the time of the call
 abbrev pub NotesStart : {B X : Type 0} → NoteDrop → Request B X → Moment → Result ℕ NoMemory → NoteDrop → Type 0
 NotesStart old request m answer new = answer ≡ Ok m.now
 
+-- a callback that tells the drop of a body with the response's status, since the call
 abbrev pub NotesBody : {X : Type 0} → NoteDrop → ℕ → ResponseHead X → Result NoteDropped NoMemory → NoteDrop → Type 0
 NotesBody old start head answer new = answer ≡ Ok (noting (Body head.parts.status) start)

@@ -2,7 +2,7 @@
 use Rattle.std.proofs.Common.{◌≡◌, ℕ, ◌<◌, List, [], length, Bool, true, false, Some, None, Ok, Err, Result, refl, ◌∙◌, subst}
 use Rattle.std.specs.Prelude.{⊤}
 use Rattle.life_core.proofs.Growth.{adds_none}
-use Rattle.life_core.specs.History.{Adds, BodyHistory, BodyFollows, FutureHistory, FutureFollows, Where, Waiting, Answered, Matches, where_after, left_at, ServiceFollows, answers_instead, records_unless}
+use Rattle.life_core.specs.History.{Adds, BodyHistory, BodyFollows, FutureHistory, FutureFollows, Where, Waiting, Answered, IsSaid, where_after, abandoned_at, ServiceFollows, answers_instead, records_unless}
 use Rattle.life_core.specs.Calls.{Polls, Abandons, Frames, Calls, Reply}
 use Rattle.life_core.specs.Message.{IsBare}
 use Rattle.life_core.specs.Moment.{Moment}
@@ -14,10 +14,10 @@ use Rattle.life_core.specs.declared.message.ResponseHead.{ResponseHead}
 use Rattle.life_core.specs.declared.poll.Poll.{Poll}
 use Rattle.life_core.specs.declared.poll.Poll.TheVariants.{Ready, Pending}
 use Rattle.life_core.specs.declared.recorder.NoMemory.{NoMemory}
-use Rattle.life_gate.specs.Gate.{Validates, GateCalls, Follows, GatePolls, GateAbandons, KindPolls, KindAbandons}
+use Rattle.life_gate.specs.Gate.{Validates, GateCalls, Follows, GatePolls, GateKindPolls, GateKindAbandons}
 use Rattle.life_gate.specs.Judged.{Judged, IsBareRefusal, Verdict}
 use Rattle.life_gate.specs.Required.{RequiredValidates, is_refused, required_of}
-use Rattle.life_gate.specs.History.{GateStands, KindStands, Refusal, GateServes, AsksPast, Judges}
+use Rattle.life_gate.specs.History.{GateStands, GateKindStands, Refusal, GateServes, AsksPast, Judges}
 use Rattle.life_gate.specs.declared.validate_request.future.Kind.{Kind}
 use Rattle.life_gate.specs.declared.validate_request.future.Kind.TheVariants.{Future, Error}
 use Rattle.life_gate.specs.declared.validate_request.future.ResponseFuture.{ResponseFuture}
@@ -33,20 +33,20 @@ same_reply q r e = cc e
 module _ {H Q F B X E D A : Type 0} (polls : Polls F (Result (Response B X) E)) (abandons : Abandons F) (frames : Frames B A D) (body_abandons : Abandons B) (ends : B → Bool)
     (Heads : H → ResponseHead X → Type 0) (Stands : F → Where → Type 0) (BodyStands : Q → B → List ℕ → Type 0) (hb : Q → BodyHistory A D)
     (head : H) (plan : Q) (h : FutureHistory H Q E)
-    (silent : (t : ℕ) → (hb plan).left [] t ≡ [])
+    (silent : (t : ℕ) → (hb plan).abandoned [] t ≡ [])
     (inner : FutureFollows polls abandons Heads Stands BodyStands h) (body : BodyFollows frames body_abandons ends BodyStands hb) where
   abbrev Here : Bool → Kind F B X → Where → Type 0
-  Here shut = KindStands Heads BodyStands head plan shut Stands
+  Here shut = GateKindStands Heads BodyStands head plan shut Stands
 
   abbrev history : Bool → FutureHistory H Q E
   history shut = answers_instead shut head plan h
 
   abbrev Polled : Bool → List ℕ → Recorded → Moment → Poll (Result (Response B X) E) → Kind F B X → Recorded → Type 0
   Polled shut past was m a new now =
-      Matches Heads BodyStands ((history shut).says past m.now) a × Adds was now ((history shut).events past m.now) × Here shut new (where_after past m.now a)
+      IsSaid Heads BodyStands ((history shut).says past m.now) a × Adds was now ((history shut).events past m.now) × Here shut new (where_after past m.now a)
 
   refused_poll : (past : List ℕ) (r : Response B X) (new : Kind F B X) (was : Recorded) (m : Moment) (a : Poll (Result (Response B X) E)) (now : Recorded) →
-      Refusal Heads BodyStands head plan r → KindPolls polls (Error (Some r)) was m (Ok a) new now → Polled true past was m a new now
+      Refusal Heads BodyStands head plan r → GateKindPolls polls (Error (Some r)) was m (Ok a) new now → Polled true past was m a new now
   refused_poll past r (Future g) was m a now s d = elim d [ ]
   refused_poll past r (Error (Some q)) was m a now s d = elim d [ ]
   refused_poll past r (Error None) was m (Ready (Ok q)) now s d = (rw (same_reply q r d.0) s, adds_none was now d.1, tt)
@@ -54,7 +54,7 @@ module _ {H Q F B X E D A : Type 0} (polls : Polls F (Result (Response B X) E)) 
   refused_poll past r (Error None) was m Pending now s d = absurd (cc d.0)
 
   polled : (shut : Bool) (past : List ℕ) (f new : Kind F B X) (was : Recorded) (m : Moment) (a : Poll (Result (Response B X) E)) (now : Recorded) →
-      Here shut f (Waiting past) → KindPolls polls f was m (Ok a) new now → Polled shut past was m a new now
+      Here shut f (Waiting past) → GateKindPolls polls f was m (Ok a) new now → Polled shut past was m a new now
   polled true past (Future f) new was m a now s d = elim s [ ]
   polled true past (Error None) new was m a now s d = elim s [ ]
   polled true past (Error (Some r)) new was m a now s d = refused_poll past r new was m a now s d
@@ -62,18 +62,18 @@ module _ {H Q F B X E D A : Type 0} (polls : Polls F (Result (Response B X) E)) 
   polled false past (Future f) (Error r) was m a now s d = elim d [ ]
   polled false past (Error r) new was m a now s d = elim s [ ]
 
-  left : (shut : Bool) (w : Where) (f : Kind F B X) (was : Recorded) (m : Moment) (u : Unit) (now : Recorded) →
-      Here shut f w → KindAbandons abandons body_abandons f was m (Ok u) now → Adds was now (left_at (history shut) w m.now)
-  left true w (Future f) was m u now s d = elim s [ ]
-  left true (Waiting past) (Error (Some r)) was m u now s d = subst (λ es. Adds was now es) (silent m.now) (body.left plan [] r.body was m u now s.1 d)
-  left true Answered (Error (Some r)) was m u now s d = elim s [ ]
-  left true (Waiting past) (Error None) was m u now s d = elim s [ ]
-  left true Answered (Error None) was m u now s d = adds_none was now d.1
-  left false w (Future f) was m u now s d = inner.left w f was m u now s d
-  left false w (Error r) was m u now s d = elim s [ ]
+  abandoned : (shut : Bool) (w : Where) (f : Kind F B X) (was : Recorded) (m : Moment) (u : Unit) (now : Recorded) →
+      Here shut f w → GateKindAbandons abandons body_abandons f was m (Ok u) now → Adds was now (abandoned_at (history shut).abandoned w m.now)
+  abandoned true w (Future f) was m u now s d = elim s [ ]
+  abandoned true (Waiting past) (Error (Some r)) was m u now s d = subst (λ es. Adds was now es) (silent m.now) (body.abandoned plan [] r.body was m u now s.1 d)
+  abandoned true Answered (Error (Some r)) was m u now s d = elim s [ ]
+  abandoned true (Waiting past) (Error None) was m u now s d = elim s [ ]
+  abandoned true Answered (Error None) was m u now s d = adds_none was now d.1
+  abandoned false w (Future f) was m u now s d = inner.abandoned w f was m u now s d
+  abandoned false w (Error r) was m u now s d = elim s [ ]
 
   unable : (shut : Bool) (w : Where) (f : Kind F B X) (was : Recorded) (m : Moment) (e : NoMemory) (now : Recorded) →
-      Here shut f w → KindAbandons abandons body_abandons f was m (Err e) now → was.spare < length (left_at (history shut) w m.now)
+      Here shut f w → GateKindAbandons abandons body_abandons f was m (Err e) now → was.spare < length (abandoned_at (history shut).abandoned w m.now)
   unable true w (Future f) was m e now s d = elim s [ ]
   unable true (Waiting past) (Error (Some r)) was m e now s d = subst (λ (es : List Event). was.spare < length es) (silent m.now) (body.refused plan [] r.body was m e now s.1 d)
   unable true Answered (Error (Some r)) was m e now s d = elim s [ ]
@@ -84,10 +84,10 @@ module _ {H Q F B X E D A : Type 0} (polls : Polls F (Result (Response B X) E)) 
 
   -- by whether the request was refused
   pub gate_follows : (shut : Bool) →
-      FutureFollows (GatePolls polls) (GateAbandons abandons body_abandons) Heads (GateStands shut Heads BodyStands head plan Stands) BodyStands (answers_instead shut head plan h)
+      FutureFollows (GatePolls polls) (λ f. GateKindAbandons abandons body_abandons f.kind) Heads (GateStands shut Heads BodyStands head plan Stands) BodyStands (answers_instead shut head plan h)
   gate_follows shut = record {
     poll = λ past f was m a new now s d. let r = polled shut past f.kind new.kind was m a now s d in record { answer = r.0; adds = r.1; stands = r.2 };
-    left = λ w f was m u now s d. left shut w f.kind was m u now s d;
+    abandoned = λ w f was m u now s d. abandoned shut w f.kind was m u now s d;
     refused = λ w f was m e now s d. unable shut w f.kind was m e now s d;
   }
 

@@ -33,6 +33,10 @@ pub record Offers (wanted : MediaType) (value : FieldValue) : Type 0 where
 abbrev pub accepted : Entries FieldValue → List FieldValue
 accepted headers = get_all headers (codes "accept")
 
+-- some value of the `Accept` headers offers the media type
+abbrev pub IsOffered : Entries FieldValue → MediaType → Type 0
+IsOffered headers wanted = Any (Offers wanted) (accepted headers)
+
 -- no header says what is accepted, or some value offers it
 abbrev pub IsAcceptable : Entries FieldValue → MediaType → Type 0
-IsAcceptable headers wanted = (accepted headers ≡ []) ⊎ Any (Offers wanted) (accepted headers)
+IsAcceptable headers wanted = (accepted headers ≡ []) ⊎ IsOffered headers wanted

@@ -24,15 +24,15 @@ module _ {H Q P X : Type 0} (Heads : H → ResponseHead X → Type 0) (BodyStand
   RefusalStands None Answered = ⊤
 
   -- by whether the gate was shut, the refusal or the inner future stands
-  abbrev pub KindStands : {F : Type 0} → Bool → (F → Where → Type 0) → Kind F P X → Where → Type 0
-  KindStands true Stands (Error refusal) w = RefusalStands refusal w
-  KindStands true Stands (Future f) w = ⊥
-  KindStands false Stands (Future f) w = Stands f w
-  KindStands false Stands (Error refusal) w = ⊥
+  abbrev pub GateKindStands : {F : Type 0} → Bool → (F → Where → Type 0) → Kind F P X → Where → Type 0
+  GateKindStands true Stands (Error refusal) w = RefusalStands refusal w
+  GateKindStands true Stands (Future f) w = ⊥
+  GateKindStands false Stands (Future f) w = Stands f w
+  GateKindStands false Stands (Error refusal) w = ⊥
 
 -- a future of `ValidateRequestHeader`, whose request was refused or not
 abbrev pub GateStands : {H Q F P X : Type 0} → Bool → (H → ResponseHead X → Type 0) → (Q → P → List ℕ → Type 0) → H → Q → (F → Where → Type 0) → ResponseFuture F P X → Where → Type 0
-GateStands shut Heads BodyStands head plan Stands f w = KindStands Heads BodyStands head plan shut Stands f.kind w
+GateStands shut Heads BodyStands head plan Stands f w = GateKindStands Heads BodyStands head plan shut Stands f.kind w
 
 -- the validator is as it is kept, and the inner service serves
 pub record GateServes {S V : Type 0} (Keeps : V → Type 0) (Serves : S → Type 0) (s : ValidateRequestHeader S V) : Type 0 where

@@ -3,7 +3,6 @@ pub mod Accepting
 pub mod Gate
 pub mod History
 pub mod Judged
-pub mod Lending
 pub mod MediaList
 pub mod MediaType
 pub mod Required

@@ -1,5 +1,5 @@
 -- Lists of media types: pieces with commas between them, where no comma in a quoted part counts.
-use Rattle.std.specs.Prelude.{◌≢◌, ℕ, List, [], ◌∷◌, ◌++◌}
+use Rattle.std.specs.Prelude.{◌≡◌, ◌≢◌, ℕ, List, [], ◌∷◌, ◌++◌}
 use Rattle.life_gate.specs.declared.media.types.MediaItem.{MediaItem}
 use Rattle.life_gate.specs.declared.media.types.MediaItem.TheVariants.{Good, Bad}
 use Rattle.life_gate.specs.MediaType.{IsMediaType, IsNoMediaType}
@@ -48,3 +48,7 @@ pub data IsMediaList : List ℕ → List MediaItem → Type 0 where
   last : {piece : List ℕ} {item : MediaItem} → IsLastPiece piece → IsItem piece item → IsMediaList piece (item ∷ [])
   more : {piece rest : List ℕ} {item : MediaItem} {items : List MediaItem}
       → IsPiece piece → IsItem piece item → IsMediaList rest items → IsMediaList (piece ++ comma ∷ rest) (item ∷ items)
+
+-- the text has no other items than these
+abbrev pub IsOnlyMediaList : List ℕ → List MediaItem → Type 0
+IsOnlyMediaList text items = (others : List MediaItem) → IsMediaList text others → items ≡ others

@@ -1,5 +1,5 @@
 -- Media types (RFC 9110, section 8.3.1). Blanks may stand round them, and parameters are not looked at.
-use Rattle.std.specs.Prelude.{◌≡◌, ℕ, Bool, ◌||◌, ◌==◌, List, [], ◌∷◌, ◌++◌, drop, if◌then◌else◌}
+use Rattle.std.specs.Prelude.{◌≡◌, ℕ, Bool, ◌||◌, ◌==◌, List, [], ◌∷◌, ◌++◌, drop, Option, Some, MatchOption, if◌then◌else◌}
 use Rattle.std.specs.List.{AllPass, list_any, before_last}
 use Rattle.http_header.specs.Token.{IsToken, lowercase, space, tab}
 use Rattle.life_gate.specs.declared.media.types.MediaType.{MediaType}
@@ -16,9 +16,11 @@ slash = 47
 abbrev pub semicolon : ℕ
 semicolon = 59
 
+-- a space or a tab
 abbrev pub is_blank : ℕ → Bool
 is_blank b = b == space || b == tab
 
+-- whether the byte is a plus
 abbrev pub is_plus : ℕ → Bool
 is_plus b = b == plus
 
@@ -28,6 +30,10 @@ pub record HasKind (text kind rest : List ℕ) : Type 0 where
   pub whole : text ≡ before ++ (kind ++ slash ∷ rest)
   pub blanks : AllPass is_blank before
   pub token : IsToken kind
+
+-- no token with a slash after it stands at the front, nor with blanks before it
+abbrev pub HasNoKind : List ℕ → Type 0
+HasNoKind text = (kind rest : List ℕ) → ¬ (HasKind text kind rest)
 
 -- nothing, or a semicolon and anything
 abbrev pub AreParameters : List ℕ → Type 0
@@ -42,6 +48,10 @@ pub record HasSub (text sub : List ℕ) : Type 0 where
   pub token : IsToken sub
   pub blanks : AllPass is_blank after
   pub rest : AreParameters parameters
+
+-- the text is no token with only blanks and parameters after it
+abbrev pub HasNoSub : List ℕ → Type 0
+HasNoSub text = (sub : List ℕ) → ¬ (HasSub text sub)
 
 -- a token up to its last plus that is not its first byte, or the whole where there is none
 abbrev pub without_suffix : List ℕ → List ℕ
@@ -63,3 +73,11 @@ pub record IsMediaType (text : List ℕ) (media : MediaType) : Type 0 where
 -- the text is no media type
 abbrev pub IsNoMediaType : List ℕ → Type 0
 IsNoMediaType text = (media : MediaType) → ¬ (IsMediaType text media)
+
+-- the text is the media type, or no media type where there is none
+abbrev pub IsReadAs : List ℕ → Option MediaType → Type 0
+IsReadAs text found = MatchOption found (IsNoMediaType text) (λ media. IsMediaType text media)
+
+-- each media type that the text is, is this one
+abbrev pub IsOnlyMediaType : List ℕ → Option MediaType → Type 0
+IsOnlyMediaType text found = (media : MediaType) → IsMediaType text media → found ≡ Some media

@@ -6,6 +6,7 @@ use Rattle.life_core.specs.declared.message.Request.{Request}
 use Rattle.life_gate.specs.Judged.{Judged, IsBareRefusal, Verdict}
 use Rattle.life_gate.specs.declared.validate_request.required.RequiredHeaderValue.{RequiredHeaderValue}
 
+-- a validator that asks for this value under this name
 abbrev pub required_of : {R : Type 0} → List ℕ → List ℕ → RequiredHeaderValue R
 required_of name value = record { name = name; value = value; refusal = record {} }
 

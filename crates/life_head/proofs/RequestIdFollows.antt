@@ -5,7 +5,7 @@ use Rattle.http_header.specs.FieldValue.{FieldValue}
 use Rattle.http_header.specs.HeaderMap.{get, get_all}
 use Rattle.life_core.proofs.Headers.{get_put, get_all_put_other}
 use Rattle.life_core.specs.Header.{is_full_for}
-use Rattle.life_core.specs.History.{FutureHistory, FutureFollows, PollSteps, Said, Waits, Gives, Fails, Where, Waiting, Answered, Matches, left_at, said_with, ServiceFollows}
+use Rattle.life_core.specs.History.{FutureHistory, FutureFollows, PollSteps, Said, Waits, Gives, Fails, Where, Waiting, IsSaid, said_with, ServiceFollows}
 use Rattle.life_core.specs.Calls.{Polls, Abandons, Calls}
 use Rattle.life_core.specs.Moment.{Moment}
 use Rattle.life_core.specs.Recorded.{Recorded}
@@ -16,9 +16,9 @@ use Rattle.life_core.specs.declared.message.ResponseHead.{ResponseHead}
 use Rattle.life_core.specs.declared.poll.Poll.{Poll}
 use Rattle.life_core.specs.declared.poll.Poll.TheVariants.{Ready, Pending}
 use Rattle.life_core.specs.declared.recorder.NoMemory.{NoMemory}
-use Rattle.life_head.specs.Ids.{Makes, value_of, marked, marked_by, tagged, tagged_by}
-use Rattle.life_head.specs.Propagating.{PropagateCalls, PropagatePolls, PropagateAbandons}
-use Rattle.life_head.specs.Setting.{TagsBy, Tags, Asked, SetCalls, SetServed}
+use Rattle.life_head.specs.Ids.{Makes, id_value, marked, marked_by, tagged, tagged_by}
+use Rattle.life_head.specs.Propagating.{PropagateCalls, PropagatePolls}
+use Rattle.life_head.specs.Setting.{TagsBy, Tags, MakerAsked, SetCalls, SetServed}
 use Rattle.life_head.specs.History.{PropagateStands, PropagateServes, SetServes, AsksWith, propagate_history, first_of}
 use Rattle.life_head.specs.declared.request_id.id.RequestId.{RequestId}
 use Rattle.life_head.specs.declared.request_id.propagate.PropagateRequestId.{PropagateRequestId}
@@ -33,17 +33,17 @@ module _ {H G P F B X E : Type 0} (polls : Polls F (Result (Response B X) E)) (a
     (Stands : F → Where → Type 0) (BodyStands : P → B → List ℕ → Type 0) (h : FutureHistory H P E)
     (inner : FutureFollows polls abandons Heads Stands BodyStands h) where
   gave : (s : Said H P E) (head : ResponseHead X) (r : Response B X) → r.head ≡ marked holds after name id head →
-      Matches Heads BodyStands s (Ready (Ok (record { head = head; body = r.body }))) → Matches Told BodyStands (said_with mark s) (Ready (Ok r))
+      IsSaid Heads BodyStands s (Ready (Ok (record { head = head; body = r.body }))) → IsSaid Told BodyStands (said_with mark s) (Ready (Ok r))
   gave Waits head r k m = elim m [ ]
   gave (Gives h p) head r k m = (rw k (told h head m.0), m.1)
   gave (Fails x) head r k m = elim m [ ]
 
-  failed : (s : Said H P E) (x : E) → Matches Heads BodyStands s (Ready (Err x)) → Matches Told BodyStands (said_with mark s) (Ready (Err x))
+  failed : (s : Said H P E) (x : E) → IsSaid Heads BodyStands s (Ready (Err x)) → IsSaid Told BodyStands (said_with mark s) (Ready (Err x))
   failed Waits x m = elim m [ ]
   failed (Gives h p) x m = elim m [ ]
   failed (Fails y) x m = m
 
-  waited : (s : Said H P E) → Matches Heads BodyStands s Pending → Matches Told BodyStands (said_with mark s) Pending
+  waited : (s : Said H P E) → IsSaid Heads BodyStands s Pending → IsSaid Told BodyStands (said_with mark s) Pending
   waited Waits m = tt
   waited (Gives h p) m = elim m [ ]
   waited (Fails y) m = elim m [ ]
@@ -69,15 +69,11 @@ module _ {H G P F B X E : Type 0} (polls : Polls F (Result (Response B X) E)) (a
     stands = record { name_is = ap (λ x. x.header_name) d.1 ∙ s.name_is; kept_is = ap (λ x. x.kept) d.1 ∙ s.kept_is; inner = i.stands };
   }
 
-  same_left : (w : Where) (t : ℕ) → left_at (propagate_history mark h) w t ≡ left_at h w t
-  same_left (Waiting past) t = refl
-  same_left Answered t = refl
-
-  pub propagate_follows : FutureFollows (PropagatePolls polls body_abandons holds after) (PropagateAbandons abandons) Told (PropagateStands name id Stands) BodyStands (propagate_history mark h)
+  pub propagate_follows : FutureFollows (PropagatePolls polls body_abandons holds after) (λ f. abandons f.inner) Told (PropagateStands name id Stands) BodyStands (propagate_history mark h)
   propagate_follows = record {
     poll = step;
-    left = λ w f was m u now s d. rw (same_left w m.now) (inner.left w f.inner was m u now s.inner d);
-    refused = λ w f was m e now s d. rw (same_left w m.now) (inner.refused w f.inner was m e now s.inner d);
+    abandoned = λ w f was m u now s d. inner.abandoned w f.inner was m u now s.inner d;
+    refused = λ w f was m e now s d. inner.refused w f.inner was m e now s.inner d;
   }
 
 module _ {S B X F : Type 0} (calls : Calls S (Request B X) F) (abandons : Abandons B) (Asks : Request B X → Type 0) (Serves : S → Type 0) (Stands : ℕ → F → Where → Type 0) (es : List Event)
@@ -122,7 +118,7 @@ module _ {S M B X F : Type 0} (calls : Calls S (Request B X) F) (makes : Makes M
   kept_by None at maker req maker_new new k t = keeps maker req (Ok t.0) maker_new k t.1
   kept_by (Some v) at maker req maker_new new k t = rw t.0 k
 
-  kept_asked : (maker : M) (req : Request B X) (maker_new : M) → Keeps maker → Asked makes holds after maker req maker_new → Keeps maker_new
+  kept_asked : (maker : M) (req : Request B X) (maker_new : M) → Keeps maker → MakerAsked makes holds after maker req maker_new → Keeps maker_new
   kept_asked maker req maker_new k t = ⊎_elim (λ d. rw d k) (λ d. keeps maker req d.0 maker_new k d.1) t
 
   served : (s : SetRequestId S M) (req : Request B X) (was : Recorded) (m : Moment) (a : Result F NoMemory) (new : SetRequestId S M) (now : Recorded) → SetServes name Keeps Serves s →
@@ -181,20 +177,20 @@ module _ {X : Type 0} (holds : X → Option RequestId) (after : X → RequestId 
   marked_others given other head differ = marked_others_by (get head.parts.headers name) given other head differ
 
   tagged_value_by : {B : Type 0} (x : Option FieldValue) (given : Option RequestId) (req : Request B X) → get req.head.parts.headers name ≡ x → is_full_for req.head.parts.headers name ≡ false →
-      get (tagged_by holds after x given name req).head.parts.headers name ≡ first_of x (option_map value_of given)
+      get (tagged_by holds after x given name req).head.parts.headers name ≡ first_of x (option_map id_value given)
   tagged_value_by (Some v) given req e room = e
   tagged_value_by None None req e room = e
-  tagged_value_by None (Some id) req e room = get_put req.head.parts.headers name (value_of id) room
+  tagged_value_by None (Some id) req e room = get_put req.head.parts.headers name (id_value id) room
 
   pub tagged_value : {B : Type 0} (given : Option RequestId) (req : Request B X) → is_full_for req.head.parts.headers name ≡ false →
-      get (tagged holds after name given req).head.parts.headers name ≡ first_of (get req.head.parts.headers name) (option_map value_of given)
+      get (tagged holds after name given req).head.parts.headers name ≡ first_of (get req.head.parts.headers name) (option_map id_value given)
   tagged_value given req room = tagged_value_by (get req.head.parts.headers name) given req refl room
 
   tagged_others_by : {B : Type 0} (x : Option FieldValue) (given : Option RequestId) (other : List ℕ) (req : Request B X) → name ≢ other →
       get_all (tagged_by holds after x given name req).head.parts.headers other ≡ get_all req.head.parts.headers other
   tagged_others_by (Some v) given other req differ = refl
   tagged_others_by None None other req differ = refl
-  tagged_others_by None (Some id) other req differ = get_all_put_other req.head.parts.headers name other (value_of id) differ
+  tagged_others_by None (Some id) other req differ = get_all_put_other req.head.parts.headers name other (id_value id) differ
 
   pub tagged_others : {B : Type 0} (given : Option RequestId) (other : List ℕ) (req : Request B X) → name ≢ other →
       get_all (tagged holds after name given req).head.parts.headers other ≡ get_all req.head.parts.headers other

@@ -22,16 +22,18 @@ pub record PropagateStands {F : Type 0} (name : List ℕ) (id : Option FieldValu
 
 -- the inner answers, with the head that mark tells
 abbrev pub propagate_history : {H G P X : Type 0} → (H → G) → FutureHistory H P X → FutureHistory G P X
-propagate_history mark h = record { says = λ past t. said_with mark (h.says past t); events = h.events; left = h.left }
+propagate_history mark h = record { says = λ past t. said_with mark (h.says past t); events = h.events; abandoned = h.abandoned }
 
 -- a request whose first value under the name is this
 abbrev pub AsksWith : {B X : Type 0} → List ℕ → Option FieldValue → (Request B X → Type 0) → Request B X → Type 0
 AsksWith name id Asks req = Asks req × (get req.head.parts.headers name ≡ id)
 
+-- a `PropagateRequestId` for this name, over a service that serves
 pub record PropagateServes {S : Type 0} (name : List ℕ) (Serves : S → Type 0) (s : PropagateRequestId S) : Type 0 where
   pub name_is : s.header_name ≡ name
   pub inner : Serves s.inner
 
+-- a `SetRequestId` for this name with a maker that is kept, over a service that serves
 pub record SetServes {S M : Type 0} (name : List ℕ) (Keeps : M → Type 0) (Serves : S → Type 0) (s : SetRequestId S M) : Type 0 where
   pub name_is : s.header_name ≡ name
   pub maker : Keeps s.make_request_id

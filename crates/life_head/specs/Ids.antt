@@ -9,11 +9,13 @@ use Rattle.life_core.specs.declared.recorder.NoMemory.{NoMemory}
 use Rattle.life_head.specs.declared.request_id.id.RequestId.{RequestId}
 use Rattle.life_head.specs.declared.request_id.number.Number.{Number}
 
+-- a value as an id
 abbrev pub id_of : FieldValue → RequestId
 id_of v = record { 0 = v }
 
-abbrev pub value_of : RequestId → FieldValue
-value_of id = id.0
+-- the value of an id
+abbrev pub id_value : RequestId → FieldValue
+id_value id = id.0
 
 -- the name that the constructors without a name use
 abbrev pub x_request_id_name : List ℕ
@@ -28,6 +30,7 @@ abbrev pub id_of_number : Option Number → Option RequestId
 id_of_number None = None
 id_of_number (Some n) = Some (id_of (plain_value (decimal n.0)))
 
+-- one thing where there is no id yet, another where there is
 abbrev pub or_else : {X : Type 0} → Option RequestId → X → X → X
 or_else None missing there = missing
 or_else (Some i) missing there = there
@@ -44,6 +47,7 @@ module _ {X : Type 0} (holds : X → Option RequestId) (after : X → RequestId 
   marked_by None None name head = head
   marked_by None (Some v) name head = record head { parts = record head.parts { headers = put_in head.parts.headers name v }; ext = after head.ext (id_of v) }
 
+  -- a response's head once it has its id
   abbrev pub marked : List ℕ → Option FieldValue → ResponseHead X → ResponseHead X
   marked name given head = marked_by (get head.parts.headers name) given name head
 
@@ -52,8 +56,9 @@ module _ {X : Type 0} (holds : X → Option RequestId) (after : X → RequestId 
   tagged_by (Some v) given name req = record req { head = record req.head { ext = adopted req.head.ext v } }
   tagged_by None None name req = req
   tagged_by None (Some id) name req =
-      record req { head = record req.head { parts = record req.head.parts { headers = put_in req.head.parts.headers name (value_of id) }; ext = after req.head.ext id } }
+      record req { head = record req.head { parts = record req.head.parts { headers = put_in req.head.parts.headers name (id_value id) }; ext = after req.head.ext id } }
 
+  -- a request once it has its id
   abbrev pub tagged : {B : Type 0} → List ℕ → Option RequestId → Request B X → Request B X
   tagged name given req = tagged_by (get req.head.parts.headers name) given name req
 

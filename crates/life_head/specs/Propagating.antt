@@ -1,8 +1,10 @@
 -- What `PropagateRequestId` does: it keeps the request's value, and puts it into a response that has none.
 use Rattle.std.specs.Prelude.{◌≡◌, ℕ, ◌⊎◌, List, Option, None, Result, Ok, Err}
+use Rattle.std.specs.Borrow.{Lends, MutBor, Fml}
+use denote.RattleType.{RattleType}
 use Rattle.http_header.specs.FieldValue.{FieldValue}
 use Rattle.http_header.specs.HeaderMap.{Entries, get}
-use Rattle.life_core.specs.Calls.{Forwards, Polls, Abandons, Readies, Calls, Abandoned}
+use Rattle.life_core.specs.Calls.{Polls, Abandons, Calls, Abandoned}
 use Rattle.life_core.specs.Moment.{Moment}
 use Rattle.life_core.specs.Recorded.{Recorded}
 use Rattle.life_core.specs.declared.message.Request.{Request}
@@ -14,30 +16,19 @@ use Rattle.life_head.specs.declared.request_id.id.RequestId.{RequestId}
 use Rattle.life_head.specs.declared.request_id.propagate.PropagateRequestId.{PropagateRequestId}
 use Rattle.life_head.specs.declared.request_id.propagate.PropagateRequestIdLayer.{PropagateRequestIdLayer}
 use Rattle.life_head.specs.declared.request_id.propagating.PropagateRequestIdResponseFuture.{PropagateRequestIdResponseFuture}
+use Rattle.life_head.specs.contracts.request_id.propagate.PropagateRequestId.{the_row as propagate_row}
 
+-- the layer for this header name
 abbrev pub propagate_layer : List ℕ → PropagateRequestIdLayer
 propagate_layer name = record { header_name = name }
 
+-- the service for this header name
 abbrev pub propagate_service : {S : Type 0} → S → List ℕ → PropagateRequestId S
 propagate_service inner name = record { inner = inner; header_name = name }
 
-abbrev pub propagate_round : {S : Type 0} → PropagateRequestIdLayer → S → PropagateRequestId S
-propagate_round layer inner = propagate_service inner layer.header_name
-
-abbrev pub propagate_inner : {S : Type 0} → PropagateRequestId S → S
-propagate_inner s = s.inner
-
-abbrev pub PropagateMay : {S : Type 0} → (S → Type 0) → PropagateRequestId S → Type 0
-PropagateMay may s = may s.inner
-
-abbrev pub PropagateFutureMay : {F : Type 0} → (F → Type 0) → PropagateRequestIdResponseFuture F → Type 0
-PropagateFutureMay may f = may f.inner
-
-abbrev pub PropagateAbandons : {F : Type 0} → Abandons F → Abandons (PropagateRequestIdResponseFuture F)
-PropagateAbandons abandons f = abandons f.inner
-
-abbrev pub PropagateReadies : {S E : Type 0} → Readies S E → Readies (PropagateRequestId S) E
-PropagateReadies = Forwards propagate_inner (λ s inner. record s { inner = inner })
+-- once the borrow r ends, the service has the inner one that was left
+abbrev pub LendsPropagateInner : (S : RattleType) → MutBor (PropagateRequestId S.Denot) → MutBor S.Denot → Fml
+LendsPropagateInner S s r = Lends (propagate_row S) S s r (λ w. record s.now { inner = w })
 
 -- the future has the layer's name, and the first value of the request
 pub record Keeps {S F : Type 0} (s : PropagateRequestId S) (headers : Entries FieldValue) (f : PropagateRequestIdResponseFuture F) : Type 0 where
@@ -69,9 +60,10 @@ module _ {F B X E : Type 0} (polls : Polls F (Result (Response B X) E)) (abandon
     pub response : Response B X
     pub between : Recorded
     pub inner : polls old.inner was m (Ok (Ready (Ok response))) new.inner between
-    pub left : Abandoned abandons response.body between m now
+    pub abandoned : Abandoned abandons response.body between m now
     pub same : new ≡ record old { inner = new.inner; kept = None }
 
+  -- the inner answer, a response with its id; or no memory
   abbrev pub PropagatePolls : Polls (PropagateRequestIdResponseFuture F) (Result (Response B X) E)
   PropagatePolls old was m (Ok (Ready (Ok r))) new now = PropagateGives old was m r new now
   PropagatePolls old was m (Ok (Ready (Err e))) new now =

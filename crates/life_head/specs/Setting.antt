@@ -1,8 +1,10 @@
 -- What `SetRequestId` does: the id into extension and header, then the inner call.
 use Rattle.std.specs.Prelude.{◌≡◌, ℕ, ◌⊎◌, List, Option, Some, None, Result, Ok, Err}
+use Rattle.std.specs.Borrow.{Lends, MutBor, Fml}
+use denote.RattleType.{RattleType}
 use Rattle.http_header.specs.FieldValue.{FieldValue}
 use Rattle.http_header.specs.HeaderMap.{get}
-use Rattle.life_core.specs.Calls.{Forwards, Abandons, Readies, Calls, Abandoned}
+use Rattle.life_core.specs.Calls.{Abandons, Calls, Abandoned}
 use Rattle.life_core.specs.Moment.{Moment}
 use Rattle.life_core.specs.Recorded.{Recorded}
 use Rattle.life_core.specs.declared.message.Request.{Request}
@@ -11,24 +13,23 @@ use Rattle.life_head.specs.Ids.{Makes, tagged_by}
 use Rattle.life_head.specs.declared.request_id.id.RequestId.{RequestId}
 use Rattle.life_head.specs.declared.request_id.set.SetRequestId.{SetRequestId}
 use Rattle.life_head.specs.declared.request_id.set.SetRequestIdLayer.{SetRequestIdLayer}
+use Rattle.life_head.specs.contracts.request_id.set.SetRequestId.{the_row as set_row}
 
+-- the layer for this header name, with this maker
 abbrev pub set_layer : {M : Type 0} → List ℕ → M → SetRequestIdLayer M
 set_layer name maker = record { header_name = name; make_request_id = maker }
 
+-- the service for this header name, with this maker
 abbrev pub set_service : {S M : Type 0} → S → List ℕ → M → SetRequestId S M
 set_service inner name maker = record { inner = inner; header_name = name; make_request_id = maker }
 
-abbrev pub set_round : {S M : Type 0} → SetRequestIdLayer M → S → SetRequestId S M
-set_round layer inner = set_service inner layer.header_name layer.make_request_id
+-- once the borrow r ends, the service has the inner one that was left
+abbrev pub LendsSetInner : (S M : RattleType) → MutBor (SetRequestId S.Denot M.Denot) → MutBor S.Denot → Fml
+LendsSetInner S M s r = Lends (set_row S M) S s r (λ w. record s.now { inner = w })
 
-abbrev pub set_inner : {S M : Type 0} → SetRequestId S M → S
-set_inner s = s.inner
-
+-- the inner service and the maker may be called
 abbrev pub SetMay : {S M : Type 0} → (S → Type 0) → (M → Type 0) → SetRequestId S M → Type 0
 SetMay may maker_may s = may s.inner × maker_may s.make_request_id
-
-abbrev pub SetReadies : {S M E : Type 0} → Readies S E → Readies (SetRequestId S M) E
-SetReadies = Forwards set_inner (λ s inner. record s { inner = inner })
 
 module _ {M B X : Type 0} (makes : Makes M B X) (holds : X → Option RequestId) (after : X → RequestId → X) where
   -- by the first value of the header: where there is none, the maker is asked
@@ -38,13 +39,14 @@ module _ {M B X : Type 0} (makes : Makes M B X) (holds : X → Option RequestId)
       (made : Option RequestId) × makes maker old (Ok made) maker_new × (new ≡ tagged_by holds after None made name old)
 
   -- the maker was not asked, or it was asked once
-  abbrev pub Asked : M → Request B X → M → Type 0
-  Asked maker request maker_new =
+  abbrev pub MakerAsked : M → Request B X → M → Type 0
+  MakerAsked maker request maker_new =
       (maker_new ≡ maker) ⊎ ((made : Result (Option RequestId) NoMemory) × makes maker request made maker_new)
 
+  -- the request gets its id; for want of memory the maker may have been asked all the same
   abbrev pub Tags : List ℕ → M → Request B X → Result Unit NoMemory → M → Request B X → Type 0
   Tags name maker old (Ok u) maker_new new = TagsBy (get old.head.parts.headers name) name maker old maker_new new
-  Tags name maker old (Err e) maker_new new = Asked maker old maker_new
+  Tags name maker old (Err e) maker_new new = MakerAsked maker old maker_new
 
 module _ {S M B X F : Type 0} (calls : Calls S (Request B X) F) (makes : Makes M B X)
     (holds : X → Option RequestId) (after : X → RequestId → X) (abandons : Abandons B) where
@@ -59,10 +61,11 @@ module _ {S M B X F : Type 0} (calls : Calls S (Request B X) F) (makes : Makes M
   -- no memory for the id: the request's body is abandoned
   pub record SetRefused (old : SetRequestId S M) (req : Request B X) (was : Recorded) (m : Moment)
       (new : SetRequestId S M) (now : Recorded) : Type 0 where
-    pub asked : Asked makes holds after old.make_request_id req new.make_request_id
-    pub left : Abandoned abandons req.body was m now
+    pub asked : MakerAsked makes holds after old.make_request_id req new.make_request_id
+    pub abandoned : Abandoned abandons req.body was m now
     pub same : new ≡ record old { make_request_id = new.make_request_id }
 
+  -- the inner call with the request that has its id; or no memory for the id
   abbrev pub SetCalls : Calls (SetRequestId S M) (Request B X) F
   SetCalls old req was m answer new now =
       SetServed old req was m answer new now ⊎ ((e : NoMemory) × (answer ≡ Err e) × SetRefused old req was m new now)

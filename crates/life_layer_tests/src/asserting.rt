@@ -3,11 +3,13 @@ ghost use Rattle.std.specs.Prelude.{IfOk};
 
 use bytes::Bytes;
 use http::header::{HeaderMap, HeaderName, HeaderValue};
+use http_body::Frame;
 use life_core::{
-    Body, Fault, Future, Got, Layer, Log, Poll, Request, Response, ResponseHead, Service, Sound,
-    Spend, Twin,
+    Body, Event, Fault, Future, Got, Layer, Log, Poll, Request, Response, ResponseHead, Service,
+    Sound, Spend, Twin,
 };
 use life_probe::{Probe, ProbeBody, abandoned, called, frame, polled, readiness};
+use life_script::event_text;
 use std::fmt::Display;
 use std::process::Abort;
 
@@ -169,7 +171,18 @@ pub fn shows<T: Display>(rt: &(impl Abort + AllocGlobal), value: &T, want: &str)
     }
 }
 
-/// Asserts what a body says at this time: a chunk, or the text of a fault, or `pending`, or `end`.
+/// Asserts that a frame is such a chunk, or that it is trailers.
+fn is_frame(rt: &impl Abort, frame: Frame<Bytes>, want: Result<&[u8], &str>) {
+    match want {
+        Ok(_) => is_chunk(rt, frame.into_data().ok(), want),
+        Err(word) => {
+            assert!(rt; frame.is_trailers());
+            assert_eq!(rt; word, "trailers");
+        }
+    }
+}
+
+/// Asserts what a body says at this time: a chunk, or the text of a fault, or `trailers`, `pending` or `end`.
 pub fn says<B, E>(
     rt: &(impl Abort + AllocGlobal),
     body: &mut B,
@@ -182,10 +195,26 @@ where
     requires { B.may body.old }
     ensures { B.may body.new }
 {
-    let mut log = Log::new(rt.alloc());
+    says_into(rt, body, now, want, &mut Log::new(rt.alloc()));
+}
+
+/// The same where what is recorded is kept.
+fn says_into<B, E>(
+    rt: &(impl Abort + AllocGlobal),
+    body: &mut B,
+    now: u64,
+    want: Result<&[u8], &str>,
+    log: &mut Log,
+)
+where
+    B: Body<Log, Data = Bytes, Error = E>,
+    E: Display + Drop,
+    requires { B.may body.old }
+    ensures { B.may body.new }
+{
     let word = want.err().unwrap_or("a chunk");
-    match frame(rt.alloc(), body, now, &mut log) {
-        Ok(Poll::Ready(Some(Ok(frame)))) => is_chunk(rt, frame.into_data().ok(), want),
+    match frame(rt.alloc(), body, now, log) {
+        Ok(Poll::Ready(Some(Ok(frame)))) => is_frame(rt, frame, want),
         Ok(Poll::Ready(Some(Err(fault)))) => shows(rt, &fault, word),
         Ok(Poll::Ready(None)) => assert_eq!(rt; word, "end"),
         Ok(Poll::Pending) => assert_eq!(rt; word, "pending"),
@@ -374,4 +403,50 @@ where
 /// Asserts how often a service of the tests was called.
 pub fn is_called(rt: &impl Abort, service: &Probe, times: u64) {
     assert_eq!(rt; service.calls, times);
+}
+
+/// Asserts the text of an event.
+fn event_is(rt: &(impl Abort + AllocGlobal), event: Option<&Event>, want: &str) {
+    let Some(event) = event else {
+        panic!(rt; "no event");
+    };
+    match event_text(rt.alloc(), event) {
+        Ok(text) => assert_eq!(rt; text.as_slice(), want.as_bytes(), "{want}"),
+        Err(_) => panic!(rt; "no memory for {want}"),
+    }
+}
+
+/// Asserts the texts of all events that were recorded since this was last asked, in order.
+pub fn records(rt: &(impl Abort + AllocGlobal), log: &mut Log, want: &[&str]) {
+    let events = log.take();
+    assert_eq!(rt; events.len(), want.len() as u64);
+    for (i, text) in want.iter().enumerate() {
+        event_is(rt, events.get(i as u64), text);
+    }
+}
+
+/// Has the body of a response say these at their times, and abandons it at a time.
+pub fn says_and_leaves<B, X, E, D>(
+    rt: &(impl Abort + AllocGlobal),
+    answer: Result<Response<B, X>, E>,
+    polls: &[(u64, Result<&[u8], &str>)],
+    now: u64,
+    log: &mut Log,
+)
+where
+    B: Body<Log, Data = Bytes, Error = D>,
+    D: Display + Drop,
+    X: Drop,
+    E: Drop,
+    requires { IfOk answer (λ response. B.may response.body) }
+{
+    let Ok(response) = answer else {
+        panic!(rt; "an error");
+    };
+    let (head, mut body) = response.into_parts();
+    drop(head);
+    for &(at, want) in polls {
+        says_into(rt, &mut body, at, want, log);
+    }
+    abandon(rt, body, now, log);
 }

@@ -8,10 +8,14 @@ mod catch_panic;
 #[cfg(test)]
 mod early_drop;
 #[cfg(test)]
+mod early_drop_hooks;
+#[cfg(test)]
 mod limit;
 #[cfg(test)]
 mod request_id;
 #[cfg(test)]
 mod timeout;
+#[cfg(test)]
+mod trace;
 #[cfg(test)]
 mod validate_request;

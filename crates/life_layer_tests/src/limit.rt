@@ -1,6 +1,5 @@
 //! The limit on the bodies of requests.
 ghost use Rattle.std.specs.Prelude.{⊤, IfOk};
-ghost use Rattle.life_core.specs.Limited.{LimitedMay};
 ghost use Rattle.life_limit.specs.LimitBody.{LimitBodyMay};
 
 use crate::asserting::{
@@ -33,7 +32,7 @@ fn answer(
     service: &mut RequestBodyLimit<Probe>,
     values: &[&[u8]],
 ) -> Answer
-    ensures { IfOk result (λ response. LimitBodyMay (LimitedMay (λ _. ⊤)) response.body) }
+    ensures { IfOk result (λ response. LimitBodyMay (λ _. ⊤) response.body) }
 {
     let mut log = Log::new(rt.alloc());
     let request = request_with(rt, ProbeBody::new(CHUNKS), (), "content-length", values);

@@ -2,7 +2,7 @@
 use Rattle.std.proofs.Common.{◌≡◌, ℕ, ◌<◌, List, [], ◌∷◌, length, Option, Some, None, Ok, Err, Result, ap, ◌∙◌, subst, ⊎_elim, inl, inr}
 use Rattle.std.specs.Prelude.{⊤, codes, IsSome}
 use Rattle.life_core.proofs.Growth.{adds_one, adds_then}
-use Rattle.life_core.specs.History.{Adds, BodyHistory, FutureHistory, FutureFollows, Said, Waits, Gives, Fails, Where, Waiting, Answered, Matches, where_after, left_at, ServiceFollows}
+use Rattle.life_core.specs.History.{Adds, BodyHistory, FutureHistory, FutureFollows, Said, Waits, Gives, Fails, Where, Waiting, Answered, IsSaid, where_after, abandoned_at, ServiceFollows}
 use Rattle.life_core.specs.Calls.{Polls, Abandons, Calls}
 use Rattle.life_core.specs.Message.{IsText}
 use Rattle.life_core.specs.Moment.{Moment}
@@ -20,7 +20,7 @@ use Rattle.life_core.specs.declared.message.ResponseHead.{ResponseHead}
 use Rattle.life_core.specs.declared.poll.Poll.{Poll}
 use Rattle.life_core.specs.declared.poll.Poll.TheVariants.{Ready, Pending}
 use Rattle.life_core.specs.declared.recorder.NoMemory.{NoMemory}
-use Rattle.life_limit.specs.Catch.{Handles, HandlerBody, CatchCalls, CatchPolls, CatchCatches, CatchAbandons, CatchKindAbandons, CatchKindPolls, InnerBody, InnerReplies, DefaultHandles, panic_record}
+use Rattle.life_limit.specs.Catch.{Handles, HandlerBody, CatchCalls, CatchPolls, CatchCatches, CatchKindAbandons, CatchKindPolls, CatchInnerBody, CatchInnerReplies, DefaultHandles, PanickedBy, panic_record, panicked_future}
 use Rattle.life_limit.specs.History.{CatchStands, CatchServes, Watches, KeepsUntil, caught, with_panic, catch_history}
 use Rattle.life_limit.specs.declared.catch_panic.future.Kind.{Kind}
 use Rattle.life_limit.specs.declared.catch_panic.future.Kind.TheVariants as kind
@@ -47,16 +47,16 @@ module _ {H P F T B Q X E D : Type 0} (polls : Polls F (Result (Response B X) (F
   -- an answer, by what the inner one says and by what it records
   abbrev Steps : List ℕ → Recorded → ℕ → Reply → F → Recorded → Type 0
   Steps past was t a g now =
-      Matches Heads BS (caught panic_head plan (h.says past t)) a × Adds was now (with_panic fired (h.says past t) (h.events past t)) × Stands g (where_after past t a)
+      IsSaid Heads BS (caught panic_head plan (h.says past t)) a × Adds was now (with_panic fired (h.says past t) (h.events past t)) × Stands g (where_after past t a)
 
-  gave : (s : Said H P (Fault E)) (es : List Event) (head : ResponseHead X) (b : B) (was now : Recorded) → Matches Heads BodyStands s (Ready (Ok (record { head = head; body = b }))) → Adds was now es →
-      Matches Heads BS (caught panic_head plan s) (Ready (Ok (record { head = head; body = Inner b }))) × Adds was now (with_panic fired s es)
+  gave : (s : Said H P (Fault E)) (es : List Event) (head : ResponseHead X) (b : B) (was now : Recorded) → IsSaid Heads BodyStands s (Ready (Ok (record { head = head; body = b }))) → Adds was now es →
+      IsSaid Heads BS (caught panic_head plan s) (Ready (Ok (record { head = head; body = Inner b }))) × Adds was now (with_panic fired s es)
   gave Waits es head b was now m g = elim m [ ]
   gave (Gives k p) es head b was now m g = (m, g)
   gave (Fails x) es head b was now m g = elim m [ ]
 
-  failed : (s : Said H P (Fault E)) (es : List Event) (x : E) (was now : Recorded) → Matches Heads BodyStands s (Ready (Err (fault.Err x))) → Adds was now es →
-      Matches Heads BS (caught panic_head plan s) (Ready (Err x)) × Adds was now (with_panic fired s es)
+  failed : (s : Said H P (Fault E)) (es : List Event) (x : E) (was now : Recorded) → IsSaid Heads BodyStands s (Ready (Err (fault.Err x))) → Adds was now es →
+      IsSaid Heads BS (caught panic_head plan s) (Ready (Err x)) × Adds was now (with_panic fired s es)
   failed Waits es x was now m g = elim m [ ]
   failed (Gives k p) es x was now m g = elim m [ ]
   failed (Fails (fault.Panicked text)) es x was now m g = absurd (cc m)
@@ -65,15 +65,15 @@ module _ {H P F T B Q X E D : Type 0} (polls : Polls F (Result (Response B X) (F
       err_is : ◌≡◌ {A = Fault E} (fault.Err x) (fault.Err y) → x ≡ y
       err_is e = cc
 
-  waited : (s : Said H P (Fault E)) (es : List Event) (was now : Recorded) → Matches Heads BodyStands s Pending → Adds was now es →
-      Matches Heads BS (caught panic_head plan s) Pending × Adds was now (with_panic fired s es)
+  waited : (s : Said H P (Fault E)) (es : List Event) (was now : Recorded) → IsSaid Heads BodyStands s Pending → Adds was now es →
+      IsSaid Heads BS (caught panic_head plan s) Pending × Adds was now (with_panic fired s es)
   waited Waits es was now m g = (tt, g)
   waited (Gives k p) es was now m g = elim m [ ]
   waited (Fails x) es was now m g = elim m [ ]
 
   -- a panic, and then the handler's response
-  panicked : (s : Said H P (Fault E)) (es : List Event) (text : PanicText) (a : Reply) (was between now : Recorded) → Matches Heads BodyStands s (Ready (Err (fault.Panicked text))) → Adds was between es →
-      Matches Heads BS (Gives panic_head plan) a → Adds between now (fired text) → Matches Heads BS (caught panic_head plan s) a × Adds was now (with_panic fired s es)
+  panicked : (s : Said H P (Fault E)) (es : List Event) (text : PanicText) (a : Reply) (was between now : Recorded) → IsSaid Heads BodyStands s (Ready (Err (fault.Panicked text))) → Adds was between es →
+      IsSaid Heads BS (Gives panic_head plan) a → Adds between now (fired text) → IsSaid Heads BS (caught panic_head plan s) a × Adds was now (with_panic fired s es)
   panicked Waits es text a was between now m g r f = elim m [ ]
   panicked (Gives k p) es text a was between now m g r f = elim m [ ]
   panicked (Fails (fault.Panicked other)) es text a was between now m g r f =
@@ -85,16 +85,16 @@ module _ {H P F T B Q X E D : Type 0} (polls : Polls F (Result (Response B X) (F
 
   -- the handler's response
   handled : (old : T) (text : PanicText) (was : Recorded) (head : ResponseHead X) (body : UnsyncBoxBody B Q) (new : T) (now : Recorded) → Keeps old → HandlerBody handles old text was head body new now →
-      Matches {E = E} Heads BS (Gives panic_head plan) (Ready (Ok (record { head = head; body = body }))) × Adds was now (fired text)
+      IsSaid {E = E} Heads BS (Gives panic_head plan) (Ready (Ok (record { head = head; body = body }))) × Adds was now (fired text)
   handled old text was head (Inner b) new now k d = elim d [ ]
   handled old text was head (Panic q) new now k d = let r = handler.responds old text was (record { head = head; body = q }) new now k d in ((r.0, r.1), r.2)
   handled old text was head Empty new now k d = elim d [ ]
 
   passes : (past : List ℕ) (f : F) (was : Recorded) (m : Moment) (a : Reply) (new : F) (now : Recorded) →
-      Stands f (Waiting past) → InnerReplies polls handles f was m (Ok a) new now → Steps past was m.now a new now
+      Stands f (Waiting past) → CatchInnerReplies polls handles f was m (Ok a) new now → Steps past was m.now a new now
   passes past f was m (Ready (Ok r)) new now s d = by_body r.head r.body d
     where
-      by_body : (head : ResponseHead X) (body : UnsyncBoxBody B Q) → InnerBody polls handles f was m head body new now → Steps past was m.now (Ready (Ok (record { head = head; body = body }))) new now
+      by_body : (head : ResponseHead X) (body : UnsyncBoxBody B Q) → CatchInnerBody polls handles f was m head body new now → Steps past was m.now (Ready (Ok (record { head = head; body = body }))) new now
       by_body head (Inner b) d = let i = inner.poll past f was m _ new now s d in let g = gave (h.says past m.now) (h.events past m.now) head b was now i.answer i.adds in (g.0, g.1, i.stands)
       by_body head (Panic q) d = elim d [ ]
       by_body head Empty d = elim d [ ]
@@ -118,7 +118,7 @@ module _ {H P F T B Q X E D : Type 0} (polls : Polls F (Result (Response B X) (F
   until past t Pending handler k = k
 
   abbrev Goes : List ℕ → Recorded → ℕ → Reply → Kind F → T → Recorded → Type 0
-  Goes past was t a new after now = Matches Heads BS (caught panic_head plan (h.says past t)) a × Adds was now (with_panic fired (h.says past t) (h.events past t)) × Watches Keeps Stands new after (where_after past t a)
+  Goes past was t a new after now = IsSaid Heads BS (caught panic_head plan (h.says past t)) a × Adds was now (with_panic fired (h.says past t) (h.events past t)) × Watches Keeps Stands new after (where_after past t a)
 
   step : (past : List ℕ) (f : Kind F) (handler : T) (was : Recorded) (m : Moment) (a : Reply) (new : Kind F) (after : T) (now : Recorded) →
       Watches Keeps Stands f handler (Waiting past) → CatchKindPolls polls handles f handler was m (Ok a) new after now → Goes past was m.now a new after now
@@ -127,22 +127,22 @@ module _ {H P F T B Q X E D : Type 0} (polls : Polls F (Result (Response B X) (F
   step past (kind.Future f) handler was m a (kind.Panicked text) after now s d = elim d [ ]
   step past (kind.Panicked text) handler was m a new after now s d = elim s [ ]
 
-  left_by : (w : Where) (f : Kind F) (handler : T) (was : Recorded) (m : Moment) (u : Unit) (now : Recorded) →
-      Watches Keeps Stands f handler w → CatchKindAbandons abandons f was m (Ok u) now → Adds was now (left_at (catch_history fired panic_head plan h) w m.now)
-  left_by (Waiting past) (kind.Future f) handler was m u now s d = inner.left (Waiting past) f was m u now s.1 d
-  left_by Answered (kind.Future f) handler was m u now s d = inner.left Answered f was m u now s.1 d
-  left_by w (kind.Panicked text) handler was m u now s d = elim s [ ]
+  abandoned_by : (w : Where) (f : Kind F) (handler : T) (was : Recorded) (m : Moment) (u : Unit) (now : Recorded) →
+      Watches Keeps Stands f handler w → CatchKindAbandons abandons f was m (Ok u) now → Adds was now (abandoned_at (catch_history fired panic_head plan h).abandoned w m.now)
+  abandoned_by (Waiting past) (kind.Future f) handler was m u now s d = inner.abandoned (Waiting past) f was m u now s.1 d
+  abandoned_by Answered (kind.Future f) handler was m u now s d = inner.abandoned Answered f was m u now s.1 d
+  abandoned_by w (kind.Panicked text) handler was m u now s d = elim s [ ]
 
   refused_by : (w : Where) (f : Kind F) (handler : T) (was : Recorded) (m : Moment) (e : NoMemory) (now : Recorded) →
-      Watches Keeps Stands f handler w → CatchKindAbandons abandons f was m (Err e) now → was.spare < length (left_at (catch_history fired panic_head plan h) w m.now)
+      Watches Keeps Stands f handler w → CatchKindAbandons abandons f was m (Err e) now → was.spare < length (abandoned_at (catch_history fired panic_head plan h).abandoned w m.now)
   refused_by (Waiting past) (kind.Future f) handler was m e now s d = inner.refused (Waiting past) f was m e now s.1 d
   refused_by Answered (kind.Future f) handler was m e now s d = inner.refused Answered f was m e now s.1 d
   refused_by w (kind.Panicked text) handler was m e now s d = elim s [ ]
 
-  pub catch_follows : FutureFollows (CatchPolls polls handles) (CatchAbandons abandons) Heads (CatchStands Keeps Stands) BS (catch_history fired panic_head plan h)
+  pub catch_follows : FutureFollows (CatchPolls polls handles) (λ f. CatchKindAbandons abandons f.kind) Heads (CatchStands Keeps Stands) BS (catch_history fired panic_head plan h)
   catch_follows = record {
     poll = λ past f was m a new now s d. let r = step past f.kind f.panic_handler was m a new.kind new.panic_handler now s d in record { answer = r.0; adds = r.1; stands = r.2 };
-    left = λ w f was m u now s d. left_by w f.kind f.panic_handler was m u now s d;
+    abandoned = λ w f was m u now s d. abandoned_by w f.kind f.panic_handler was m u now s d;
     refused = λ w f was m e now s d. refused_by w f.kind f.panic_handler was m e now s d;
   }
 
@@ -187,3 +187,18 @@ module _ {H P X D : Type 0} (is_ext : X → Type 0) (Heads : H → ResponseHead 
   panic_handler_follows = record {
     responds = λ old text was r new now k d. (heads r.head d.1, rw d.2 told, adds_one was now _ d.0);
   }
+
+-- a call that answers a panic: the body is abandoned, and the future has the text, or all stays as it was
+pub catch_panicked : {S T Q X F : Type 0} (calls : Calls S (Request Q X) F) (abandons : Abandons Q) (old : CatchPanic S T) (req : Request Q X) (was : Recorded) (m : Moment)
+    (handler : T) (made : Result (ResponseFuture F T) NoMemory) (kept : Option PanicText) (now : Recorded) → IsSome old.kept → handler ≡ old.panic_handler →
+    PanickedBy abandons req.body was m old.kept handler made kept now → CatchCalls calls abandons old req was m made (record old { kept = kept }) now
+catch_panicked calls abandons old req was m handler (Ok f) kept now is same p = inr (record {
+  is_kept = is;
+  abandoned = p.0;
+  future = p.1 ∙ ap (λ h. panicked_future old.kept h) same;
+  same = ap (λ k. record old { kept = k }) p.2;
+})
+catch_panicked calls abandons old req was m handler (Err e) kept now is same p = inr (record {
+  abandoned = (Err e, p.0);
+  same = ap (λ k. record old { kept = k }) p.1;
+})

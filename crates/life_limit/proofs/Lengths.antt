@@ -1,24 +1,20 @@
 -- What `parse` reads of a header value is the length that the value tells.
-use Rattle.std.proofs.Common.{◌≡◌, ℕ, ◌+◌, ◌-◌, ◌*◌, ◌^◌, ◌<◌, List, [], ◌∷◌, length, drop, Bool, true, false, cond, Some, None, Ok, Err, Result, refl, sym, ap, ◌∙◌, subst, arith, rules, fold}
-use Rattle.std.specs.Prelude.{nat_lt, nat_le, ◌&&◌, ◌==◌}
-use Rattle.std.specs.Char.{is_ascii_digit}
+use Rattle.std.proofs.Common.{◌≡◌, ℕ, ◌^◌, ◌<◌, List, [], ◌∷◌, length, drop, Bool, true, false, cond, Some, None, Ok, Err, Result, refl, sym, ap, ◌∙◌, subst}
+use Rattle.std.specs.Prelude.{nat_lt, ◌&&◌, ◌==◌}
 use Rattle.std.specs.List.{list_all}
 use Rattle.std.specs.Result.{result_ok}
 use Rattle.std.specs.Str.{all_ascii_digits}
 use Rattle.std.specs.Str.Parse.{ParsesUnsigned, IsNumeral, digits_value, without_leading_plus}
-use Rattle.std.proofs.lemmas.Bool.{and_parts, and_from, or_right, ltb-true, lt-ltb, leb-true, le-leb, eqb-true}
+use Rattle.std.proofs.lemmas.Bool.{and_parts, and_from, ltb-true, lt-ltb, eqb-true}
 use Rattle.std.proofs.lemmas.List.Sums.{AllPass-from_list_all}
-use Rattle.std.proofs.lemmas.Str.Parse.{IsNumeralModel, numerals_by_fold}
+use Rattle.std.proofs.lemmas.Str.Parse.{IsNumeralModel, numerals_by_value, tells_all_ascii_digits}
 use Rattle.http_header.specs.FieldValue.{IsVisibleAscii}
 use Rattle.http_header.specs.Token.{is_visible_or_blank}
-use Rattle.life_limit.specs.Length.{after_plus, number_of, is_length, length_in}
+use Rattle.life_core.proofs.Digits.{digits_visible}
+use Rattle.life_limit.specs.Length.{after_plus, is_length, length_in}
 
--- the number that digits write after those of n
-abbrev read_on : ℕ → List ℕ → ℕ
-read_on n digits = fold (λ n digit. n * 10 + (digit - 48)) n digits
-
-own : IsNumeralModel (λ digits. all_ascii_digits digits ≡ true) number_of
-own = numerals_by_fold _ (search rules) read_on (search rules)
+own : IsNumeralModel (λ digits. all_ascii_digits digits ≡ true) (digits_value 10)
+own = numerals_by_value _ tells_all_ascii_digits
 
 plus_is : (value : List ℕ) → without_leading_plus value ≡ after_plus value
 plus_is [] = refl
@@ -31,42 +27,32 @@ plus_is (b ∷ bs) = by_test (b == 43)
 -- the parts of the test
 numeral : (digits : List ℕ) → is_length digits ≡ true → IsNumeral 10 digits × (digits_value 10 digits < 2 ^ 64)
 numeral digits e =
-    let a = and_parts (nat_lt 0 (length digits) && all_ascii_digits digits) (nat_lt (number_of digits) (2 ^ 64)) e in
+    let a = and_parts (nat_lt 0 (length digits) && all_ascii_digits digits) (nat_lt (digits_value 10 digits) (2 ^ 64)) e in
     let b = and_parts (nat_lt 0 (length digits)) (all_ascii_digits digits) a.0 in
     let all = own.to digits b.1 in
-    ((ltb-true 0 (length digits) b.0, all), subst (λ n. n < 2 ^ 64) (own.same digits all) (ltb-true (number_of digits) (2 ^ 64) a.1))
+    ((ltb-true 0 (length digits) b.0, all), subst (λ n. n < 2 ^ 64) (own.same digits all) (ltb-true (digits_value 10 digits) (2 ^ 64) a.1))
 
 test : (digits : List ℕ) → IsNumeral 10 digits → digits_value 10 digits < 2 ^ 64 → is_length digits ≡ true
 test digits n small =
     and_from _ _ (and_from _ _ (lt-ltb 0 (length digits) n.0) (own.from digits n.1))
-    (lt-ltb (number_of digits) (2 ^ 64) (subst (λ n. n < 2 ^ 64) (sym (own.same digits n.1)) small))
+    (lt-ltb (digits_value 10 digits) (2 ^ 64) (subst (λ n. n < 2 ^ 64) (sym (own.same digits n.1)) small))
 
 -- what is read as a `u64` is the length
-read_by : {E : Type 0} (digits value : List ℕ) (r : Result ℕ E) → without_leading_plus value ≡ digits → ParsesUnsigned 64 10 value r → result_ok r ≡ cond (is_length digits) (Some (number_of digits)) None
+read_by : {E : Type 0} (digits value : List ℕ) (r : Result ℕ E) → without_leading_plus value ≡ digits → ParsesUnsigned 64 10 value r → result_ok r ≡ cond (is_length digits) (Some (digits_value 10 digits)) None
 read_by digits value (Ok n) e p =
     let q = subst (λ ds. IsNumeral 10 ds × (digits_value 10 ds < 2 ^ 64)) e p.0 in
     ap (λ n. Some n) (p.1 ∙ ap (λ ds. digits_value 10 ds) e ∙ sym (own.same digits q.0.1))
-    ∙ sym (ap (λ (x : Bool). cond x (Some (number_of digits)) None) (test digits q.0 q.1))
+    ∙ sym (ap (λ (x : Bool). cond x (Some (digits_value 10 digits)) None) (test digits q.0 q.1))
 read_by digits value (Err x) e p = by_test (is_length digits) refl
   where
-    by_test : (x : Bool) → is_length digits ≡ x → None ≡ cond (is_length digits) (Some (number_of digits)) None
+    by_test : (x : Bool) → is_length digits ≡ x → None ≡ cond (is_length digits) (Some (digits_value 10 digits)) None
     by_test true t = absurd (p (subst (λ ds. IsNumeral 10 ds × (digits_value 10 ds < 2 ^ 64)) (sym e) (numeral digits t)))
-    by_test false t = sym (ap (λ (x : Bool). cond x (Some (number_of digits)) None) t)
+    by_test false t = sym (ap (λ (x : Bool). cond x (Some (digits_value 10 digits)) None) t)
 
 pub length_read : {E : Type 0} (value : List ℕ) (r : Result ℕ E) → ParsesUnsigned 64 10 value r → result_ok r ≡ length_in value
 length_read value r p = read_by (after_plus value) value r (plus_is value) p
 
 -- digits, and a plus before them, are text
-digit_visible : (b : ℕ) → is_ascii_digit b ≡ true → is_visible_or_blank b ≡ true
-digit_visible b e =
-    let k = and_parts (nat_le 48 b) (nat_le b 57) e in
-    let low = leb-true 48 b k.0 in let high = leb-true b 57 k.1 in
-    or_right (b == 9) _ (and_from _ _ (le-leb 32 b (omega (arith, low))) (lt-ltb b 127 (omega (arith, high))))
-
-digits_visible : (digits : List ℕ) → all_ascii_digits digits ≡ true → list_all is_visible_or_blank digits ≡ true
-digits_visible [] e = refl
-digits_visible (b ∷ bs) e = let k = and_parts (is_ascii_digit b) (all_ascii_digits bs) e in and_from _ _ (digit_visible b k.0) (digits_visible bs k.1)
-
 value_visible : (value : List ℕ) → all_ascii_digits (after_plus value) ≡ true → list_all is_visible_or_blank value ≡ true
 value_visible [] e = refl
 value_visible (b ∷ bs) e = by_test (b == 43) refl e
@@ -83,4 +69,4 @@ no_length value hidden = by_test (is_length (after_plus value)) refl
     by_test true t =
         let a = and_parts _ _ t in let b = and_parts _ _ a.0 in
         absurd (hidden (AllPass-from_list_all is_visible_or_blank value (value_visible value b.1)))
-    by_test false t = sym (ap (λ (x : Bool). cond x (Some (number_of (after_plus value))) None) t)
+    by_test false t = sym (ap (λ (x : Bool). cond x (Some (digits_value 10 (after_plus value))) None) t)

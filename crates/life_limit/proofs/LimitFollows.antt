@@ -4,9 +4,9 @@ use Rattle.std.specs.Prelude.{⊤, codes}
 use Rattle.http_body.specs.declared.frame.Frame.{Frame}
 use Rattle.life_core.proofs.Growth.{adds_none}
 use Rattle.life_core.specs.UnsyncBoxBody.{NeverFaults}
-use Rattle.life_core.specs.Full.{FullFrames, NothingToAbandon, full_ends}
-use Rattle.life_core.specs.History.{Latest, Adds, BodyHistory, BodyFollows, FrameSteps, FutureHistory, FutureFollows, Said, Waits, Gives, Fails, Where, Waiting, Answered, Matches, where_after, left_at, ServiceFollows, answers_instead, records_unless}
-use Rattle.life_core.specs.Calls.{Polls, Abandons, Frames, Calls}
+use Rattle.life_core.specs.Full.{FullFrames, full_ends}
+use Rattle.life_core.specs.History.{Adds, BodyHistory, BodyFollows, FrameSteps, FutureHistory, FutureFollows, Said, Waits, Gives, Fails, Where, Waiting, Answered, IsSaid, where_after, abandoned_at, ServiceFollows, answers_instead, records_unless}
+use Rattle.life_core.specs.Calls.{Polls, Abandons, Frames, Calls, NothingToAbandon}
 use Rattle.life_core.specs.Message.{IsText}
 use Rattle.life_core.specs.Moment.{Moment}
 use Rattle.life_core.specs.OneChunk.{TellsChunk, FullStands}
@@ -19,7 +19,7 @@ use Rattle.life_core.specs.declared.message.ResponseHead.{ResponseHead}
 use Rattle.life_core.specs.declared.poll.Poll.{Poll}
 use Rattle.life_core.specs.declared.poll.Poll.TheVariants.{Ready, Pending}
 use Rattle.life_core.specs.declared.recorder.NoMemory.{NoMemory}
-use Rattle.life_limit.specs.Limit.{LimitCalls, LimitPolls, LimitAbandons, KindAbandons, InnerBody, InnerReplies, KindPolls, SaysTooLarge, LimitRefuses, LimitPasses, is_large, limited}
+use Rattle.life_limit.specs.Limit.{LimitCalls, LimitPolls, LimitKindAbandons, LimitInnerBody, LimitInnerReplies, LimitKindPolls, SaysTooLarge, LimitRefuses, LimitPasses, is_large, limited}
 use Rattle.life_limit.specs.LimitBody.{LimitBodyFrames, LimitBodyAbandons, limit_body_ends}
 use Rattle.life_limit.specs.History.{LimitBodyStands, LimitStands, HeldUnless, LimitServes, AsksBounded}
 use Rattle.life_limit.specs.declared.limit.body.ResponseBody.{ResponseBody}
@@ -39,24 +39,24 @@ module _ {P B E : Type 0} (frames : Frames B (List ℕ) E) (abandons : Abandons 
   tells p (PayloadTooLarge b) past s = full.tells p b past s
 
   frame_step : (p : P) (past : List ℕ) (b : ResponseBody B) (was : Recorded) (m : Moment) (a : Poll (Option (Result (Frame (List ℕ)) E))) (new : ResponseBody B) (now : Recorded) →
-      Latest m.now past → HereBody p b past → LimitBodyFrames frames b was m (Ok a) new now → FrameSteps HereBody (h p) p past was m.now a new now
-  frame_step p past (Body b) was m a (Body c) now l s d = let i = inner.frame p past b was m a c now l s d in record { answer = i.answer; adds = i.adds; stands = i.stands }
-  frame_step p past (Body b) was m a (PayloadTooLarge c) now l s d = elim d [ ]
-  frame_step p past (PayloadTooLarge b) was m a (Body c) now l s d = elim d [ ]
-  frame_step p past (PayloadTooLarge b) was m a (PayloadTooLarge c) now l s d = let i = full.frame p past b was m a c now l s d in record { answer = i.answer; adds = i.adds; stands = i.stands }
+      HereBody p b past → LimitBodyFrames frames b was m (Ok a) new now → FrameSteps HereBody (h p) p past was m.now a new now
+  frame_step p past (Body b) was m a (Body c) now s d = let i = inner.frame p past b was m a c now s d in record { answer = i.answer; adds = i.adds; stands = i.stands }
+  frame_step p past (Body b) was m a (PayloadTooLarge c) now s d = elim d [ ]
+  frame_step p past (PayloadTooLarge b) was m a (Body c) now s d = elim d [ ]
+  frame_step p past (PayloadTooLarge b) was m a (PayloadTooLarge c) now s d = let i = full.frame p past b was m a c now s d in record { answer = i.answer; adds = i.adds; stands = i.stands }
 
-  left : (p : P) (past : List ℕ) (b : ResponseBody B) (was : Recorded) (m : Moment) (u : Unit) (now : Recorded) →
-      HereBody p b past → LimitBodyAbandons abandons b was m (Ok u) now → Adds was now ((h p).left past m.now)
-  left p past (Body b) was m u now s d = inner.left p past b was m u now s d
-  left p past (PayloadTooLarge b) was m u now s d = full.left p past b was m u now s d
+  abandoned : (p : P) (past : List ℕ) (b : ResponseBody B) (was : Recorded) (m : Moment) (u : Unit) (now : Recorded) →
+      HereBody p b past → LimitBodyAbandons abandons b was m (Ok u) now → Adds was now ((h p).abandoned past m.now)
+  abandoned p past (Body b) was m u now s d = inner.abandoned p past b was m u now s d
+  abandoned p past (PayloadTooLarge b) was m u now s d = full.abandoned p past b was m u now s d
 
   refused : (p : P) (past : List ℕ) (b : ResponseBody B) (was : Recorded) (m : Moment) (e : NoMemory) (now : Recorded) →
-      HereBody p b past → LimitBodyAbandons abandons b was m (Err e) now → was.spare < length ((h p).left past m.now)
+      HereBody p b past → LimitBodyAbandons abandons b was m (Err e) now → was.spare < length ((h p).abandoned past m.now)
   refused p past (Body b) was m e now s d = inner.refused p past b was m e now s d
   refused p past (PayloadTooLarge b) was m e now s d = full.refused p past b was m e now s d
 
   pub limit_body_follows : BodyFollows (LimitBodyFrames frames) (LimitBodyAbandons abandons) (limit_body_ends ends) HereBody h
-  limit_body_follows = record { tells = tells; frame = frame_step; left = left; refused = refused }
+  limit_body_follows = record { tells = tells; frame = frame_step; abandoned = abandoned; refused = refused }
 
 -- large_head and plan are those of the refusal
 module _ {H P F B X E D : Type 0} (polls : Polls F (Result (Response B X) E)) (abandons : Abandons F) (is_ext : X → Type 0) (Heads : H → ResponseHead X → Type 0)
@@ -67,36 +67,36 @@ module _ {H P F B X E D : Type 0} (polls : Polls F (Result (Response B X) E)) (a
   abbrev BS : P → ResponseBody B → List ℕ → Type 0
   BS = LimitBodyStands hb BodyStands
 
-  gave : (s : Said H P E) (head : ResponseHead X) (b : B) → Matches Heads BodyStands s (Ready (Ok (record { head = head; body = b }))) → Matches Heads BS s (Ready (Ok (record { head = head; body = Body b })))
+  gave : (s : Said H P E) (head : ResponseHead X) (b : B) → IsSaid Heads BodyStands s (Ready (Ok (record { head = head; body = b }))) → IsSaid Heads BS s (Ready (Ok (record { head = head; body = Body b })))
   gave Waits head b m = elim m [ ]
   gave (Gives g p) head b m = m
   gave (Fails x) head b m = elim m [ ]
 
-  failed : (s : Said H P E) (x : E) → Matches Heads BodyStands s (Ready (Err x)) → Matches Heads BS s (Ready (Err x))
+  failed : (s : Said H P E) (x : E) → IsSaid Heads BodyStands s (Ready (Err x)) → IsSaid Heads BS s (Ready (Err x))
   failed Waits x m = elim m [ ]
   failed (Gives g p) x m = elim m [ ]
   failed (Fails y) x m = m
 
-  waited : (s : Said H P E) → Matches Heads BodyStands s Pending → Matches Heads BS s Pending
+  waited : (s : Said H P E) → IsSaid Heads BodyStands s Pending → IsSaid Heads BS s Pending
   waited Waits m = tt
   waited (Gives g p) m = elim m [ ]
   waited (Fails y) m = elim m [ ]
 
   abbrev Polled : List ℕ → Recorded → Moment → Poll (Result (Response (ResponseBody B) X) E) → F → Recorded → Type 0
-  Polled past was m a g now = Matches Heads BS (h.says past m.now) a × Adds was now (h.events past m.now) × Stands g (where_after past m.now a)
+  Polled past was m a g now = IsSaid Heads BS (h.says past m.now) a × Adds was now (h.events past m.now) × Stands g (where_after past m.now a)
 
   responded : (past : List ℕ) (f g : F) (was : Recorded) (m : Moment) (head : ResponseHead X) (body : ResponseBody B) (now : Recorded) →
-      Stands f (Waiting past) → InnerBody polls is_ext f was m head body g now → Polled past was m (Ready (Ok (record { head = head; body = body }))) g now
+      Stands f (Waiting past) → LimitInnerBody polls is_ext f was m head body g now → Polled past was m (Ready (Ok (record { head = head; body = body }))) g now
   responded past f g was m head (Body b) now s d = let i = inner.poll past f was m _ g now s d in (gave (h.says past m.now) head b i.answer, i.adds, i.stands)
   responded past f g was m head (PayloadTooLarge b) now s d = elim d [ ]
 
   polled : (past : List ℕ) (f g : F) (was : Recorded) (m : Moment) (a : Poll (Result (Response (ResponseBody B) X) E)) (now : Recorded) →
-      Stands f (Waiting past) → InnerReplies polls is_ext f was m (Ok a) g now → Polled past was m a g now
+      Stands f (Waiting past) → LimitInnerReplies polls is_ext f was m (Ok a) g now → Polled past was m a g now
   polled past f g was m (Ready (Ok r)) now s d = responded past f g was m r.head r.body now s d
   polled past f g was m (Ready (Err x)) now s d = let i = inner.poll past f was m _ g now s d in (failed (h.says past m.now) x i.answer, i.adds, i.stands)
   polled past f g was m Pending now s d = let i = inner.poll past f was m _ g now s d in (waited (h.says past m.now) i.answer, i.adds, i.stands)
 
-  refusal : (a : Poll (Result (Response (ResponseBody B) X) E)) → SaysTooLarge is_ext (Ok a) → Matches Heads BS (Gives large_head plan) a
+  refusal : (a : Poll (Result (Response (ResponseBody B) X) E)) → SaysTooLarge is_ext (Ok a) → IsSaid Heads BS (Gives large_head plan) a
   refusal (Ready (Ok r)) d = (heads r.head d.head, rw d.body told)
   refusal (Ready (Err x)) d = elim d [ ]
   refusal Pending d = elim d [ ]
@@ -104,12 +104,12 @@ module _ {H P F B X E D : Type 0} (polls : Polls F (Result (Response B X) E)) (a
   -- by whether the request was too large, and what the future holds before and after
   abbrev Steps : Bool → List ℕ → Recorded → Moment → Poll (Result (Response (ResponseBody B) X) E) → Kind F → Recorded → Type 0
   Steps large past was m a g now =
-      Matches Heads BS ((answers_instead large large_head plan h).says past m.now) a
+      IsSaid Heads BS ((answers_instead large large_head plan h).says past m.now) a
       × Adds was now ((answers_instead large large_head plan h).events past m.now)
       × HeldUnless large Stands g (where_after past m.now a)
 
   step : (large : Bool) (past : List ℕ) (f g : Kind F) (was : Recorded) (m : Moment) (a : Poll (Result (Response (ResponseBody B) X) E)) (now : Recorded) →
-      HeldUnless large Stands f (Waiting past) → KindPolls polls is_ext f was m (Ok a) g now → Steps large past was m a g now
+      HeldUnless large Stands f (Waiting past) → LimitKindPolls polls is_ext f was m (Ok a) g now → Steps large past was m a g now
   step true past kind.PayloadTooLarge kind.PayloadTooLarge was m a now s d = (refusal a d.0, adds_none was now d.1, tt)
   step true past kind.PayloadTooLarge (kind.Future g) was m a now s d = elim d [ ]
   step true past (kind.Future f) g was m a now s d = elim s [ ]
@@ -117,26 +117,26 @@ module _ {H P F B X E D : Type 0} (polls : Polls F (Result (Response B X) E)) (a
   step false past (kind.Future f) kind.PayloadTooLarge was m a now s d = elim d [ ]
   step false past (kind.Future f) (kind.Future g) was m a now s d = polled past f g was m a now s d
 
-  left_by : (large : Bool) (w : Where) (f : Kind F) (was : Recorded) (m : Moment) (u : Unit) (now : Recorded) →
-      HeldUnless large Stands f w → KindAbandons abandons f was m (Ok u) now → Adds was now (left_at (answers_instead large large_head plan h) w m.now)
-  left_by true (Waiting past) kind.PayloadTooLarge was m u now s d = adds_none was now d.1
-  left_by true Answered kind.PayloadTooLarge was m u now s d = adds_none was now d.1
-  left_by true w (kind.Future f) was m u now s d = elim s [ ]
-  left_by false w kind.PayloadTooLarge was m u now s d = elim s [ ]
-  left_by false w (kind.Future f) was m u now s d = inner.left w f was m u now s d
+  abandoned_by : (large : Bool) (w : Where) (f : Kind F) (was : Recorded) (m : Moment) (u : Unit) (now : Recorded) →
+      HeldUnless large Stands f w → LimitKindAbandons abandons f was m (Ok u) now → Adds was now (abandoned_at (answers_instead large large_head plan h).abandoned w m.now)
+  abandoned_by true (Waiting past) kind.PayloadTooLarge was m u now s d = adds_none was now d.1
+  abandoned_by true Answered kind.PayloadTooLarge was m u now s d = adds_none was now d.1
+  abandoned_by true w (kind.Future f) was m u now s d = elim s [ ]
+  abandoned_by false w kind.PayloadTooLarge was m u now s d = elim s [ ]
+  abandoned_by false w (kind.Future f) was m u now s d = inner.abandoned w f was m u now s d
 
   refused_by : (large : Bool) (w : Where) (f : Kind F) (was : Recorded) (m : Moment) (e : NoMemory) (now : Recorded) →
-      HeldUnless large Stands f w → KindAbandons abandons f was m (Err e) now → was.spare < length (left_at (answers_instead large large_head plan h) w m.now)
+      HeldUnless large Stands f w → LimitKindAbandons abandons f was m (Err e) now → was.spare < length (abandoned_at (answers_instead large large_head plan h).abandoned w m.now)
   refused_by true w kind.PayloadTooLarge was m e now s d = absurd (cc d.0)
   refused_by true w (kind.Future f) was m e now s d = elim s [ ]
   refused_by false w kind.PayloadTooLarge was m e now s d = elim s [ ]
   refused_by false w (kind.Future f) was m e now s d = inner.refused w f was m e now s d
 
   -- by whether the request was too large
-  pub limit_follows : (large : Bool) → FutureFollows (LimitPolls polls is_ext) (LimitAbandons abandons) Heads (LimitStands large Stands) BS (answers_instead large large_head plan h)
+  pub limit_follows : (large : Bool) → FutureFollows (LimitPolls polls is_ext) (λ f. LimitKindAbandons abandons f.kind) Heads (LimitStands large Stands) BS (answers_instead large large_head plan h)
   limit_follows large = record {
     poll = λ past f was m a new now s d. let r = step large past f.kind new.kind was m a now s d in record { answer = r.0; adds = r.1; stands = r.2 };
-    left = λ w f was m u now s d. left_by large w f.kind was m u now s d;
+    abandoned = λ w f was m u now s d. abandoned_by large w f.kind was m u now s d;
     refused = λ w f was m e now s d. refused_by large w f.kind was m e now s d;
   }
 
@@ -152,7 +152,7 @@ module _ {S B X F : Type 0} (calls : Calls S (Request (Limited B) X) F) (abandon
 
   refuses : (limit : ℕ) (s : RequestBodyLimit S) (req : Request B X) (was : Recorded) (m : Moment) (f : ResponseFuture F) (new : RequestBodyLimit S) (now : Recorded) →
       LimitServes limit Serves s → LimitRefuses calls abandons s req was m (Ok f) new now → Given true limit [] new m f was now
-  refuses limit s req was m f new now k d = (rw d.same k, rw d.refused.future tt, quiet req.body was m tt now d.refused.left)
+  refuses limit s req was m f new now k d = (rw d.same k, rw d.refused.future tt, quiet req.body was m tt now d.refused.abandoned)
 
   passes : (limit : ℕ) (s : RequestBodyLimit S) (req : Request B X) (was : Recorded) (m : Moment) (f : ResponseFuture F) (new : RequestBodyLimit S) (now : Recorded) →
       LimitServes limit Serves s → Asks (limited limit req) → LimitPasses calls abandons s req was m (Ok f) new now → Given false limit es new m f was now

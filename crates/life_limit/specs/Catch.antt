@@ -1,9 +1,10 @@
 -- What `CatchPanic` does: it turns the panics of its inner service into its handler's responses.
 use Rattle.std.specs.Prelude.{◌≡◌, ◌⊎◌, Option, Some, None, Result, Ok, Err, IsSome, codes, ⊤}
-use Rattle.std.specs.Borrow.{MutBor}
+use denote.RattleType.{RattleType}
+use Rattle.std.specs.Borrow.{MutBor, Lends, Fml}
 use Rattle.std.specs.Fn.{Called, Mut}
 use Rattle.life_core.specs.Full.{full_of}
-use Rattle.life_core.specs.Calls.{Polls, Abandons, Readies, Calls, Reply, Abandoned}
+use Rattle.life_core.specs.Calls.{NothingToAbandon, Polls, Abandons, Readies, Calls, Reply, Abandoned}
 use Rattle.life_core.specs.Message.{IsText}
 use Rattle.life_core.specs.Moment.{Moment}
 use Rattle.life_core.specs.Recorded.{Recorded, Notes}
@@ -27,14 +28,17 @@ use Rattle.life_limit.specs.declared.catch_panic.future.ResponseFuture.{Response
 use Rattle.life_limit.specs.declared.catch_panic.handler.DefaultResponseForPanic.{DefaultResponseForPanic}
 use Rattle.life_limit.specs.declared.catch_panic.layer.CatchPanicLayer.{CatchPanicLayer}
 use Rattle.life_limit.specs.declared.catch_panic.service.CatchPanic.{CatchPanic}
+use Rattle.life_limit.specs.contracts.catch_panic.service.CatchPanic.{the_row as catch_row}
 
 -- Handler and recorder before, the text of the panic, the answer, handler and recorder after.
 abbrev pub Handles : Type 0 → Type 0 → Type 0 → Type 1
 Handles T P X = T → PanicText → Recorded → Result (Response P X) NoMemory → T → Recorded → Type 0
 
+-- the handler of the crate
 abbrev pub default_handler : DefaultResponseForPanic
 default_handler = record {}
 
+-- it is the handler of the crate
 abbrev pub IsDefaultHandler : DefaultResponseForPanic → Type 0
 IsDefaultHandler handler = handler ≡ default_handler
 
@@ -57,9 +61,11 @@ pub record ClosureHandles {F A L P X : Type 0} (calls : Mut F (A × (PanicText �
   pub begins : recorded rec.now ≡ was
   pub ends : recorded left.now ≡ now
 
+-- the layer with this handler
 abbrev pub catch_layer : {T : Type 0} → T → CatchPanicLayer T
 catch_layer handler = record { panic_handler = handler }
 
+-- it is the layer with the handler of the crate
 abbrev pub IsDefaultLayer : CatchPanicLayer DefaultResponseForPanic → Type 0
 IsDefaultLayer layer = layer ≡ catch_layer default_handler
 
@@ -67,12 +73,11 @@ IsDefaultLayer layer = layer ≡ catch_layer default_handler
 abbrev pub catch_service : {S T : Type 0} → S → T → CatchPanic S T
 catch_service inner handler = record { inner = inner; panic_handler = handler; kept = None }
 
-abbrev pub catch_round : {S T : Type 0} → CatchPanicLayer T → S → CatchPanic S T
-catch_round layer inner = catch_service inner layer.panic_handler
+-- once the borrow r ends, the service has the inner one that was left
+abbrev pub LendsCatchInner : (S T : RattleType) → MutBor (CatchPanic S.Denot T.Denot) → MutBor S.Denot → Fml
+LendsCatchInner S T s r = Lends (catch_row S T) S s r (λ w. record s.now { inner = w })
 
-abbrev pub catch_inner : {S T : Type 0} → CatchPanic S T → S
-catch_inner s = s.inner
-
+-- the inner service and the handler may be called
 abbrev pub CatchMay : {S T : Type 0} → (S → Type 0) → (T → Type 0) → CatchPanic S T → Type 0
 CatchMay may handler_may s = may s.inner × handler_may s.panic_handler
 
@@ -81,16 +86,15 @@ abbrev pub watching : {F T : Type 0} → F → T → ResponseFuture F T
 watching inner handler = record { kind = kind.Future inner; panic_handler = handler }
 
 -- the future that tells of a panic before the call
-abbrev pub telling : {F T : Type 0} → Option PanicText → T → ResponseFuture F T
-telling text handler = record { kind = kind.Panicked text; panic_handler = handler }
+abbrev pub panicked_future : {F T : Type 0} → Option PanicText → T → ResponseFuture F T
+panicked_future text handler = record { kind = kind.Panicked text; panic_handler = handler }
 
+-- the inner future may be polled and abandoned, if there is one
 abbrev pub CatchKindMay : {F : Type 0} → (F → Type 0) → Kind F → Type 0
 CatchKindMay may (kind.Future f) = may f
 CatchKindMay may (kind.Panicked text) = ⊤
 
-abbrev pub CatchFutureMay : {F T : Type 0} → (F → Type 0) → ResponseFuture F T → Type 0
-CatchFutureMay may f = CatchKindMay may f.kind
-
+-- the inner future may be polled, or a text is to be told
 abbrev pub CatchKindLive : {F : Type 0} → (F → Type 0) → Kind F → Type 0
 CatchKindLive live (kind.Future f) = live f
 CatchKindLive live (kind.Panicked text) = IsSome text
@@ -99,12 +103,10 @@ CatchKindLive live (kind.Panicked text) = IsSome text
 abbrev pub CatchFutureLive : {F T : Type 0} → (F → Type 0) → (T → Type 0) → ResponseFuture F T → Type 0
 CatchFutureLive live handler_may f = handler_may f.panic_handler × CatchKindLive live f.kind
 
+-- the inner future is abandoned, if there is one
 abbrev pub CatchKindAbandons : {F : Type 0} → Abandons F → Abandons (Kind F)
 CatchKindAbandons abandons (kind.Future f) was m answer now = abandons f was m answer now
-CatchKindAbandons abandons (kind.Panicked text) was m answer now = (answer ≡ Ok tt) × (now ≡ was)
-
-abbrev pub CatchAbandons : {F T : Type 0} → Abandons F → Abandons (ResponseFuture F T)
-CatchAbandons abandons old was m answer now = CatchKindAbandons abandons old.kind was m answer now
+CatchKindAbandons abandons (kind.Panicked text) was m answer now = NothingToAbandon text was m answer now
 
 -- a panic is kept in place of what was kept, and readiness is told
 abbrev pub CatchReadies : {S T E : Type 0} → Readies S (Fault E) → Readies (CatchPanic S T) E
@@ -118,9 +120,9 @@ CatchReadies readies old was m Pending new now =
     readies old.inner was m Pending new.inner now × (new ≡ record old { inner = new.inner })
 
 -- the body is abandoned, and the future has the text; at a refusal the text stays kept
-abbrev pub TellsBy : {B F T : Type 0} → Abandons B → B → Recorded → Moment → Option PanicText → T → Result (ResponseFuture F T) NoMemory → Option PanicText → Recorded → Type 0
-TellsBy abandons body was m old handler (Ok f) new now = abandons body was m (Ok tt) now × (f ≡ telling old handler) × (new ≡ None)
-TellsBy abandons body was m old handler (Err e) new now = abandons body was m (Err e) now × (new ≡ old)
+abbrev pub PanickedBy : {B F T : Type 0} → Abandons B → B → Recorded → Moment → Option PanicText → T → Result (ResponseFuture F T) NoMemory → Option PanicText → Recorded → Type 0
+PanickedBy abandons body was m old handler (Ok f) new now = abandons body was m (Ok tt) now × (f ≡ panicked_future old handler) × (new ≡ None)
+PanickedBy abandons body was m old handler (Err e) new now = abandons body was m (Err e) now × (new ≡ old)
 
 module _ {S T Q X F : Type 0} (calls : Calls S (Request Q X) F) (abandons : Abandons Q) where
   -- no text is kept: the inner service is called
@@ -133,15 +135,15 @@ module _ {S T Q X F : Type 0} (calls : Calls S (Request Q X) F) (abandons : Aban
     pub same : new ≡ record old { inner = new.inner }
 
   -- a text is kept: the inner service is not called
-  pub record CatchTold (old : CatchPanic S T) (req : Request Q X) (was : Recorded) (m : Moment)
+  pub record CatchPanicked (old : CatchPanic S T) (req : Request Q X) (was : Recorded) (m : Moment)
       (f : ResponseFuture F T) (new : CatchPanic S T) (now : Recorded) : Type 0 where
     pub is_kept : IsSome old.kept
-    pub left : abandons req.body was m (Ok tt) now
-    pub future : f ≡ telling old.kept old.panic_handler
+    pub abandoned : abandons req.body was m (Ok tt) now
+    pub future : f ≡ panicked_future old.kept old.panic_handler
     pub same : new ≡ record old { kept = None }
 
   -- no text is kept, and the inner service has no memory
-  pub record InnerRefuses (old : CatchPanic S T) (req : Request Q X) (was : Recorded) (m : Moment)
+  pub record CatchInnerRefuses (old : CatchPanic S T) (req : Request Q X) (was : Recorded) (m : Moment)
       (e : NoMemory) (new : CatchPanic S T) (now : Recorded) : Type 0 where
     pub none_kept : old.kept ≡ None
     pub inner : calls old.inner req was m (Err e) new.inner now
@@ -150,12 +152,13 @@ module _ {S T Q X F : Type 0} (calls : Calls S (Request Q X) F) (abandons : Aban
   -- the request's body is abandoned; all stays as it was, what is kept too
   pub record CatchRefuses (old : CatchPanic S T) (req : Request Q X) (was : Recorded) (m : Moment)
       (new : CatchPanic S T) (now : Recorded) : Type 0 where
-    pub left : Abandoned abandons req.body was m now
+    pub abandoned : Abandoned abandons req.body was m now
     pub same : new ≡ old
 
+  -- the inner call where no text is kept; else a future that answers the panic
   abbrev pub CatchCalls : Calls (CatchPanic S T) (Request Q X) (ResponseFuture F T)
-  CatchCalls old req was m (Ok f) new now = CatchServed old req was m f new now ⊎ CatchTold old req was m f new now
-  CatchCalls old req was m (Err e) new now = InnerRefuses old req was m e new now ⊎ CatchRefuses old req was m new now
+  CatchCalls old req was m (Ok f) new now = CatchServed old req was m f new now ⊎ CatchPanicked old req was m f new now
+  CatchCalls old req was m (Err e) new now = CatchInnerRefuses old req was m e new now ⊎ CatchRefuses old req was m new now
 
 -- the handler's response, its body that of a panic
 abbrev pub HandlerBody : {T B P X : Type 0} → Handles T P X → T → PanicText → Recorded → ResponseHead X → UnsyncBoxBody B P → T → Recorded → Type 0
@@ -163,6 +166,7 @@ HandlerBody handles old text was head (Inner b) new now = ⊥
 HandlerBody handles old text was head (Panic p) new now = handles old text was (Ok (record { head = head; body = p })) new now
 HandlerBody handles old text was head Empty new now = ⊥
 
+-- the handler's response, or its want of memory
 abbrev pub HandlerGives : {T B P X : Type 0} → Handles T P X → T → PanicText → Recorded → Result (Response (UnsyncBoxBody B P) X) NoMemory → T → Recorded → Type 0
 HandlerGives handles old text was (Ok r) new now = HandlerBody handles old text was r.head r.body new now
 HandlerGives handles old text was (Err e) new now = handles old text was (Err e) new now
@@ -175,17 +179,18 @@ HandlerReplies handles old text was (Ok Pending) new now = ⊥
 HandlerReplies handles old text was (Err e) new now = handles old text was (Err e) new now
 
 module _ {F T B P X E : Type 0} (polls : Polls F (Result (Response B X) (Fault E))) (handles : Handles T P X) where
-  abbrev pub InnerBody : F → Recorded → Moment → ResponseHead X → UnsyncBoxBody B P → F → Recorded → Type 0
-  InnerBody old was m head (Inner b) new now = polls old was m (Ok (Ready (Ok (record { head = head; body = b })))) new now
-  InnerBody old was m head (Panic p) new now = ⊥
-  InnerBody old was m head Empty new now = ⊥
+  -- a response with the inner body
+  abbrev pub CatchInnerBody : F → Recorded → Moment → ResponseHead X → UnsyncBoxBody B P → F → Recorded → Type 0
+  CatchInnerBody old was m head (Inner b) new now = polls old was m (Ok (Ready (Ok (record { head = head; body = b })))) new now
+  CatchInnerBody old was m head (Panic p) new now = ⊥
+  CatchInnerBody old was m head Empty new now = ⊥
 
   -- the inner answer, with the inner body
-  abbrev pub InnerReplies : Polls F (Result (Response (UnsyncBoxBody B P) X) E)
-  InnerReplies old was m (Ok (Ready (Ok r))) new now = InnerBody old was m r.head r.body new now
-  InnerReplies old was m (Ok (Ready (Err e))) new now = polls old was m (Ok (Ready (Err (fault.Err e)))) new now
-  InnerReplies old was m (Ok Pending) new now = polls old was m (Ok Pending) new now
-  InnerReplies old was m (Err e) new now = polls old was m (Err e) new now
+  abbrev pub CatchInnerReplies : Polls F (Result (Response (UnsyncBoxBody B P) X) E)
+  CatchInnerReplies old was m (Ok (Ready (Ok r))) new now = CatchInnerBody old was m r.head r.body new now
+  CatchInnerReplies old was m (Ok (Ready (Err e))) new now = polls old was m (Ok (Ready (Err (fault.Err e)))) new now
+  CatchInnerReplies old was m (Ok Pending) new now = polls old was m (Ok Pending) new now
+  CatchInnerReplies old was m (Err e) new now = polls old was m (Err e) new now
 
   -- the inner future panics in this poll, and the handler answers
   pub record CatchCatches (old : F) (handler : T) (was : Recorded) (m : Moment) (answer : Reply (UnsyncBoxBody B P) X E) (new : F) (after : T) (now : Recorded) : Type 0 where
@@ -197,12 +202,13 @@ module _ {F T B P X E : Type 0} (polls : Polls F (Result (Response B X) (Fault E
   -- the inner answer, where that is no panic; the handler's, where it is one or where one was before the call
   abbrev pub CatchKindPolls : Kind F → T → Recorded → Moment → Reply (UnsyncBoxBody B P) X E → Kind F → T → Recorded → Type 0
   CatchKindPolls (kind.Future f) handler was m answer (kind.Future g) after now =
-      (InnerReplies f was m answer g now × (after ≡ handler)) ⊎ CatchCatches f handler was m answer g after now
+      (CatchInnerReplies f was m answer g now × (after ≡ handler)) ⊎ CatchCatches f handler was m answer g after now
   CatchKindPolls (kind.Future f) handler was m answer (kind.Panicked text) after now = ⊥
   CatchKindPolls (kind.Panicked (Some text)) handler was m answer (kind.Panicked None) after now = HandlerReplies handles handler text was answer after now
   CatchKindPolls (kind.Panicked (Some text)) handler was m answer (kind.Panicked (Some other)) after now = ⊥
   CatchKindPolls (kind.Panicked (Some text)) handler was m answer (kind.Future g) after now = ⊥
   CatchKindPolls (kind.Panicked None) handler was m answer new after now = ⊥
 
+  -- the answer by what is in the future
   abbrev pub CatchPolls : Polls (ResponseFuture F T) (Result (Response (UnsyncBoxBody B P) X) E)
   CatchPolls old was m answer new now = CatchKindPolls old.kind old.panic_handler was m answer new.kind new.panic_handler now

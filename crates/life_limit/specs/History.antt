@@ -40,6 +40,7 @@ LimitStands large Stands f w = HeldUnless large Stands f.kind w
 abbrev pub AsksBounded : {B X : Type 0} → Bool → ℕ → (Request (Limited B) X → Type 0) → Request B X → Type 0
 AsksBounded large limit Asks req = (is_large limit req ≡ large) × (large ≡ false → Asks (limited limit req))
 
+-- a `RequestBodyLimit` with this limit, over a service that serves
 pub record LimitServes {S : Type 0} (limit : ℕ) (Serves : S → Type 0) (s : RequestBodyLimit S) : Type 0 where
   pub limit_is : s.limit ≡ limit
   pub inner : Serves s.inner
@@ -54,6 +55,7 @@ abbrev pub Watches : {F T : Type 0} → (T → Type 0) → (F → Where → Type
 Watches Keeps Stands (catch_kind.Future f) handler w = KeepsUntil Keeps handler w × Stands f w
 Watches Keeps Stands (catch_kind.Panicked text) handler w = ⊥
 
+-- a future of `CatchPanic`, by what is in it
 abbrev pub CatchStands : {F T : Type 0} → (T → Type 0) → (F → Where → Type 0) → CatchFuture F T → Where → Type 0
 CatchStands Keeps Stands f w = Watches Keeps Stands f.kind f.panic_handler w
 
@@ -71,11 +73,12 @@ with_panic fired (Gives h q) es = es
 with_panic fired (Fails (Panicked text)) es = es ++ fired text
 with_panic fired (Fails (Err e)) es = es
 
+-- the inner answers, a panic told as a response, with what the handler records then
 abbrev pub catch_history : {H P X : Type 0} → (PanicText → List Event) → H → P → FutureHistory H P (Fault X) → FutureHistory H P X
 catch_history fired head p h = record {
   says = λ past t. caught head p (h.says past t);
   events = λ past t. with_panic fired (h.says past t) (h.events past t);
-  left = h.left;
+  abandoned = h.abandoned;
 }
 
 -- no text is kept

@@ -1,6 +1,5 @@
 pub mod Catch
 pub mod History
-pub mod Lending
 pub mod Length
 pub mod Limit
 pub mod LimitBody

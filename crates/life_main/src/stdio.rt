@@ -1,5 +1,5 @@
 //! Standard input as a source and standard output as a sink.
-ghost use Rattle.std.specs.Prelude.{◌≡◌};
+ghost use Rattle.std.specs.Prelude.{◌≡◌, ⊤};
 
 use life_core::{Failed, Sink, Source};
 use std::io::{Read, Write};
@@ -26,6 +26,8 @@ impl<R: Read> Source for StdSource<R> {
     ghost faults = { λ s. s.faults };
 
     ghost reliable = { λ _. ⊥ };
+
+    ghost reads = { λ _ _ _ _. ⊤ };
 
     fn read(&mut self, buf: &mut [u8]) -> Result<usize, Failed> {
         match self.reader.read(buf) {
@@ -60,6 +62,8 @@ impl<W: Write> Sink for StdSink<W> {
     ghost faults = { λ s. s.faults };
 
     ghost reliable = { λ _ _. ⊥ };
+
+    ghost writes = { λ _ _ _ _. ⊤ };
 
     fn write(&mut self, buf: &[u8]) -> Result<usize, Failed> {
         match self.writer.write(buf) {

@@ -1,6 +1,7 @@
 //! A service that answers each request with its own body.
 ghost use Rattle.std.specs.Prelude.{⊤, IfSome};
 
+use http::StatusCode;
 use http::header::{HeaderMap, HeaderName, HeaderValue};
 use life_core::{
     Cx, Fault, Future, Got, NoMemory, PanicText, Poll, Recorder, Request, RequestHead, Response,
@@ -17,6 +18,8 @@ pub enum Answers {
     Echo,
     /// The same with the one header `x-request-id: own` and the default extension.
     Own,
+    /// As `Respond`, with the status of this number.
+    Status(u16),
     /// The error 3.
     Fail,
     /// A panic that says `boom`.
@@ -86,6 +89,11 @@ fn own_id(alloc: Global) -> Got<HeaderMap> {
     }
 }
 
+/// The status of a number, or 200 where it is that of none.
+fn status_of(number: u16) -> StatusCode {
+    StatusCode::from_u16(number).unwrap_or(StatusCode::OK)
+}
+
 /// The future of `Probe`. It answers once.
 pub struct ProbeFuture<B, X> {
     answers: Answers,
@@ -127,7 +135,7 @@ impl<B: Spend<L>, X: Default + Drop, L: Recorder> Future<L> for ProbeFuture<B, X
             return Ok(Poll::Pending);
         }
         let own = match self.answers {
-            Answers::Respond | Answers::Echo => HeaderMap::new(cx.alloc),
+            Answers::Respond | Answers::Echo | Answers::Status(_) => HeaderMap::new(cx.alloc),
             Answers::Own => own_id(cx.alloc)?,
             Answers::Fail => return Ok(Poll::Ready(Err(Fault::Err(3)))),
             Answers::Panic => return Ok(Poll::Ready(Err(panicked(cx.alloc, "boom")))),
@@ -144,6 +152,9 @@ impl<B: Spend<L>, X: Default + Drop, L: Recorder> Future<L> for ProbeFuture<B, X
         };
         let mut response = Response::new(cx.alloc, body, ext);
         response.head.parts.headers = headers;
+        if let Answers::Status(number) = self.answers {
+            response.head.parts.status = status_of(number);
+        }
         Ok(Poll::Ready(Ok(response)))
     }
 }

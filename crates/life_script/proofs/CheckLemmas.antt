@@ -1,7 +1,7 @@
 -- The verdict on steps, step by step, and what the steps of a valid scenario are.
 use Rattle.std.proofs.Common.{◌≡◌, ℕ, zero, suc, ◌+◌, ◌<◌, ◌≤◌, Bool, true, false, cond, List, [], ◌∷◌, length, drop, get_or, Option, Some, None, Result, Ok, Err, sym, refl, ap, ◌∙◌, arith, add-one, subst}
 use Rattle.std.proofs.lemmas.Grind.{common_steps}
-use Rattle.std.specs.Prelude.{slice_get, position}
+use Rattle.std.specs.Prelude.{IsOk, slice_get, position}
 use Rattle.std.specs.List.{list_any, position_from}
 use Rattle.std.proofs.lemmas.Bool.{or_parts, ltb-false}
 use Rattle.std.proofs.lemmas.Iterator.Adapters.{position_from-zero}
@@ -17,7 +17,7 @@ use Rattle.life_script.specs.declared.scenario.BodyItem.TheVariants.{Trailers}
 use Rattle.life_script.specs.declared.scenario.Then.TheVariants.{Respond}
 use Rattle.life_script.specs.Headers.{Headers}
 use Rattle.life_script.specs.Reply.{ReplyView}
-use Rattle.life_script.specs.Valid.{is_over, is_item_over, is_message_over, is_reply_over, is_then_over, is_script_over, is_back, verdict_from, unless_over, IsValid, BodyFits, ReplyFits, ScriptFits}
+use Rattle.life_script.specs.Valid.{is_over, is_item_over, is_message_over, is_reply_over, is_then_over, is_script_over, is_back, verdict_from, unless_over, IsValid, verdict, BodyFits, EachFits, ReplyFits, ScriptFits}
 
 -- where there are r requests
 module _ (r : ℕ) where
@@ -192,3 +192,11 @@ pub valid_headers : (s : ScenarioView) → IsValid s → (i : ℕ) (script : Scr
 valid_headers s valid i script is =
     let none = (not_over (position is_script_over s.requests) (verdict_from (length s.requests) 0 None s.steps s.end) valid).0 in
     script_fits script (none_passes is_script_over s.requests 0 (sym (position_from-zero is_script_over s.requests) ∙ none) i script is)
+
+-- where nothing is found wrong with a scenario, its header lists fit
+pub fits_where_ok : (s : ScenarioView) → IsOk (verdict s) → EachFits s.requests
+fits_where_ok s ok = go (verdict s) refl ok
+  where
+    go : (r : Result Unit DriveError) → verdict s ≡ r → IsOk r → EachFits s.requests
+    go (Ok u) is o = valid_headers s is
+    go (Err e) is o = absurd (cc o)

@@ -1,12 +1,13 @@
 -- The map that header fields make: what it has under a name, that it has room, and a field put into it where there is none of its name.
-use Rattle.std.proofs.Common.{◌≡◌, ◌≢◌, ℕ, suc, ◌+◌, ◌^◌, ◌≤◌, Bool, true, false, nat_le, List, [], ◌∷◌, ◌++◌, length, bytes_eq, slice_get, Option, Some, None, refl, sym, ap, ◌∙◌, arith, inl, inr}
+use Rattle.std.proofs.Common.{◌≡◌, ◌≢◌, ℕ, suc, ◌+◌, ◌^◌, ◌≤◌, Bool, true, false, nat_le, List, [], ◌∷◌, ◌++◌, length, take, bytes_eq, slice_get, Option, Some, None, refl, sym, ap, ◌∙◌, arith, inl, inr}
 use Rattle.std.specs.Prelude.{is_none, if◌then◌else◌}
+use Rattle.std.proofs.Math.Nat.{min-le_right}
 use Rattle.std.proofs.lemmas.Bool.{cases_Bool, false≢true, lt-leb, or_from, and_right}
-use Rattle.std.proofs.lemmas.List.{length-append}
+use Rattle.std.proofs.lemmas.List.{length-append, length-take}
 use Rattle.std.proofs.lemmas.List.Sums.{fold-append, sum_by-cons}
 use Rattle.std.proofs.lemmas.Slice.Eq.{bytes_eq-Decides}
 use Rattle.http_header.specs.FieldValue.{FieldValue}
-use Rattle.http_header.specs.HeaderMap.{Entry, Entries, index_of, get, get_all, update, insert, append, append_all, value_count}
+use Rattle.http_header.specs.HeaderMap.{Entry, Entries, index_of, get, get_all, update, insert, append, append_all, value_count, RefusesAppend}
 use Rattle.http_header.proofs.HeaderMapLemmas.{get_all-append_same, get_all-append_other}
 use Rattle.life_core.specs.Header.{has_no_room, is_full_for, put_in}
 use Rattle.life_script.specs.Headers.{Headers, map_of, first_value}
@@ -93,6 +94,15 @@ count_from m (item ∷ headers) =
 
 room : (m : Entries FieldValue) → length m ≤ 1000 → value_count m ≤ 1000 → has_no_room m ≡ false
 room m names values = or_from (nat_le 24576 (length m)) (nat_le (2 ^ 64) (value_count m + 1)) (lt-leb 24576 (length m) (omega arith)) (lt-leb (2 ^ 64) (value_count m + 1) (omega arith))
+
+-- nor is there want of a place while they are put, whatever the name of the next
+pub never_full : (name : List ℕ) (k : ℕ) (headers : Headers) → length headers ≤ 1000 → RefusesAppend (map_of (take k headers)) name → ⊥
+never_full name k headers few refused =
+    let put = length-take k headers in
+    let least = min-le_right k (length headers) in
+    let names = length_from [] (take k headers) in
+    let values = count_from [] (take k headers) in
+    elim refused [ inl full ↦ omega (arith, full) | inr both ↦ elim both.1 [ inl full ↦ omega (arith, full) | inr full ↦ omega (arith, full) ] ]
 
 pub map_has_room : (name : List ℕ) (headers : Headers) → length headers ≤ 1000 → is_full_for (map_of headers) name ≡ false
 map_has_room name headers few =

@@ -16,10 +16,11 @@ abbrev pub first_value : List ℕ → Headers → Option FieldValue
 first_value name [] = None
 first_value name (item ∷ headers) = if bytes_eq item.0 name then Some item.1 else first_value name headers
 
--- the fields with this one at the end, where there is none of its name
+-- the fields with this one at the end, where no value of its name was found
 abbrev pub added_to : Option FieldValue → List ℕ → FieldValue → Headers → Headers
 added_to (Some there) name value headers = headers
 added_to None name value headers = headers ++ (name, value) ∷ []
 
+-- the fields with this one at the end, where none of its name is there
 abbrev pub with_missing : List ℕ → FieldValue → Headers → Headers
 with_missing name value headers = added_to (first_value name headers) name value headers

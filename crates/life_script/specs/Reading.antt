@@ -1,5 +1,5 @@
 -- What the bytes of a scenario say.
-use Rattle.std.specs.Prelude.{◌≡◌, ℕ, ◌==◌, ◌&&◌, ◌||◌, List, [], ◌∷◌, Bool, false, cond, codes, bytes_eq, nat_le, is_some, unwrap_or, Option, Some, None, option_map, IsUtf8}
+use Rattle.std.specs.Prelude.{◌≡◌, ◌⊎◌, ℕ, ◌==◌, ◌&&◌, ◌||◌, List, [], ◌∷◌, Bool, false, cond, codes, bytes_eq, nat_le, is_some, unwrap_or, Option, Some, None, option_map, Result, Err, IsUtf8}
 use Rattle.std.specs.List.{list_all}
 use Rattle.http_header.specs.FieldName.{is_field_name}
 use Rattle.http_header.specs.FieldValue.{FieldValue, plain_value}
@@ -7,8 +7,11 @@ use Rattle.http_header.specs.Token.{lowercase, is_value_byte}
 use Rattle.serde_json.specs.Data.{Data, Items, no_items, item}
 use Rattle.serde_json.specs.Find.{get, as_null, as_number, as_u64, as_bool, as_str, as_array}
 use Rattle.serde_json.specs.Read.{read as read_text}
+use Rattle.life_core.specs.List.{Listed}
 use Rattle.life_core.specs.declared.fault.PanicText.{PanicText}
 use Rattle.life_core.specs.declared.fault.PanicText.TheVariants.{Known, Unknown}
+use Rattle.life_script.specs.declared.error.ReadError.{ReadError}
+use Rattle.life_script.specs.declared.error.ReadError.TheVariants.{NoMemory}
 use Rattle.life_script.specs.declared.scenario.Act.{Act}
 use Rattle.life_script.specs.declared.scenario.Act.TheVariants.{Call, Poll, Drop}
 use Rattle.life_script.specs.declared.scenario.BodyItem.{BodyItem}
@@ -32,9 +35,17 @@ pub data Read (A : Type 0) : Type 0 where
   Good : A → Read A
 
 -- what was read, where none is what is not built yet
-abbrev pub built : {A : Type 0} → Option A → Read A
-built None = Unbuilt
-built (Some a) = Good a
+abbrev pub if_built : {A : Type 0} → Option A → Read A
+if_built None = Unbuilt
+if_built (Some a) = Good a
+
+-- the same of a list, by its items
+abbrev pub if_list_built : {A : Type 0} → Option (Listed A) → Read (List A)
+if_list_built list = if_built (option_map (λ found. found.items) list)
+
+-- the same of a part and a list
+abbrev pub if_pair_built : {A B : Type 0} → Option (A × Listed B) → Read (A × List B)
+if_pair_built pair = if_built (option_map (λ both. (both.0, both.1.items)) pair)
 
 -- ---- parts put together
 
@@ -77,32 +88,32 @@ all_of f (d ∷ ds) = read_both (λ a xs. a ∷ xs) (f d) (all_of f ds)
 -- ---- values
 
 -- whether an object has this key
-abbrev pub has : List ℕ → Data → Bool
-has key d = is_some (get key d)
+abbrev pub has_key : List ℕ → Data → Bool
+has_key key d = is_some (get key d)
 
 -- a number
-abbrev pub number_of : Data → Option ℕ
-number_of d = as_number d >>= as_u64
+abbrev pub as_natural : Data → Option ℕ
+as_natural d = as_number d >>= as_u64
 
 -- the number at a key
 abbrev pub number_at : List ℕ → Data → Option ℕ
-number_at key d = get key d >>= number_of
+number_at key d = get key d >>= as_natural
 
 -- a status is a number of three digits
-abbrev pub status_of : ℕ → Option ℕ
-status_of n = cond (nat_le 100 n && nat_le n 999) (Some n) None
+abbrev pub as_status : ℕ → Option ℕ
+as_status n = cond (nat_le 100 n && nat_le n 999) (Some n) None
 
 -- the status at a key
 abbrev pub status_at : List ℕ → Data → Option ℕ
-status_at key d = number_at key d >>= status_of
+status_at key d = number_at key d >>= as_status
 
 -- a number of asks is at most 16
-abbrev pub asks_of : ℕ → Option ℕ
-asks_of n = cond (nat_le n 16) (Some n) None
+abbrev pub as_asks : ℕ → Option ℕ
+as_asks n = cond (nat_le n 16) (Some n) None
 
 -- the number of asks at a key
 abbrev pub asks_at : List ℕ → Data → Option ℕ
-asks_at key d = number_at key d >>= asks_of
+asks_at key d = number_at key d >>= as_asks
 
 -- whether the value at a key is there, and is null
 abbrev pub is_null_at : List ℕ → Data → Bool
@@ -134,15 +145,15 @@ abbrev pub string_at : List ℕ → Data → Option (List ℕ)
 string_at key d = get key d >>= as_str
 
 -- a header name, which is kept in lower case
-abbrev pub name_of : List ℕ → Option (List ℕ)
-name_of text = cond (is_field_name text) (Some (lowercase text)) None
+abbrev pub as_name : List ℕ → Option (List ℕ)
+as_name text = cond (is_field_name text) (Some (lowercase text)) None
 
 -- ---- the layers
 
 -- the header that lets a request through, and what its first value must be
 abbrev pub gate_of : Data → Option (List ℕ × List ℕ)
 gate_of d =
-    string_at (codes "gate_name") d >>= name_of >>= λ name.
+    string_at (codes "gate_name") d >>= as_name >>= λ name.
     string_at (codes "gate_value") d >>= λ value.
     Some (name, value)
 
@@ -161,7 +172,7 @@ limits_of d = gate_of d >>= limits_with d
 
 -- whether limits have a key that is not built yet
 abbrev pub has_unbuilt_limit : Data → Bool
-has_unbuilt_limit d = has (codes "classifier") d || has (codes "span_headers") d
+has_unbuilt_limit d = has_key (codes "classifier") d || has_key (codes "span_headers") d
 
 -- the limits
 abbrev pub limits_part : Data → Read Limits
@@ -176,8 +187,8 @@ act_of text = cond (bytes_eq text (codes "call")) (Some Call) (cond (bytes_eq te
 -- the step of three values: its time, its request and its act
 abbrev pub step_from : List Data → Option Step
 step_from (a ∷ b ∷ c ∷ []) =
-    number_of a >>= λ at.
-    number_of b >>= λ request.
+    as_natural a >>= λ at.
+    as_natural b >>= λ request.
     as_str c >>= act_of >>= λ act.
     Some (record { at = at; request = request; act = act })
 step_from _ = None
@@ -193,8 +204,8 @@ step_part d = needs (step_of d) Good
 -- ---- header fields
 
 -- a header value: each byte is a tab, or at least 32 and not 127
-abbrev pub value_of : List ℕ → Option FieldValue
-value_of text = cond (list_all is_value_byte text) (Some (plain_value text)) None
+abbrev pub as_value : List ℕ → Option FieldValue
+as_value text = cond (list_all is_value_byte text) (Some (plain_value text)) None
 
 -- the texts of two strings
 abbrev pub texts_from : List Data → Option (List ℕ × List ℕ)
@@ -203,7 +214,7 @@ texts_from _ = None
 
 -- a name and a value
 abbrev pub header_of : List ℕ × List ℕ → Option (List ℕ × FieldValue)
-header_of texts = name_of texts.0 >>= λ name. value_of texts.1 >>= λ value. Some (name, value)
+header_of texts = as_name texts.0 >>= λ name. as_value texts.1 >>= λ value. Some (name, value)
 
 -- a name and a value, as two strings
 abbrev pub pair_part : List Data → Read (List ℕ × FieldValue)
@@ -231,8 +242,8 @@ chunk_part d = read_map Chunk (text_at (codes "data") d)
 abbrev pub body_item_part : Data → Read BodyItem
 body_item_part d =
     cond (is_string (codes "pending") d) (Good PendingItem) (
-    cond (has (codes "data") d) (chunk_part d) (
-    cond (has (codes "trailers") d) (read_map Trailers (headers_at (codes "trailers") d)) (
+    cond (has_key (codes "data") d) (chunk_part d) (
+    cond (has_key (codes "trailers") d) (read_map Trailers (headers_at (codes "trailers") d)) (
     read_map Fault (text_at (codes "fault") d))))
 
 -- the headers and the body of a request or a response
@@ -254,8 +265,8 @@ panic_part d = cond (is_null_at (codes "panic") d) (Good Unknown) (read_map Know
 abbrev pub then_part : Data → Read Then
 then_part d =
     cond (is_string (codes "pending") d) (Good Pending) (
-    cond (has (codes "panic") d) (read_map Panic (panic_part d)) (
-    cond (has (codes "fail") d) (read_map Fail (text_at (codes "fail") d)) (
+    cond (has_key (codes "panic") d) (read_map Panic (panic_part d)) (
+    cond (has_key (codes "fail") d) (read_map Fail (text_at (codes "fail") d)) (
     needs (get (codes "respond") d) (λ reply. read_map Respond (reply_part reply)))))
 
 -- what is done at one poll
@@ -276,7 +287,7 @@ service_part d =
 
 -- whether a request has a key that is not built yet
 abbrev pub has_unbuilt_request : Data → Bool
-has_unbuilt_request d = has (codes "method") d || has (codes "uri") d
+has_unbuilt_request d = has_key (codes "method") d || has_key (codes "uri") d
 
 -- the script of a request
 abbrev pub script_part : Data → Read ScriptView
@@ -313,3 +324,7 @@ IsBadScenario bytes = IsUtf8 bytes → (d : Data) → read_text bytes ≡ Some d
 -- the tree has the shape, with something in it that is not built yet
 abbrev pub IsNotBuilt : List ℕ → Type 0
 IsNotBuilt bytes = IsUtf8 bytes × ((d : Data) × (read_text bytes ≡ Some d) × (shape d ≡ Unbuilt))
+
+-- this answer, or want of memory
+abbrev pub OrNoMemory : {A : Type 0} → Result A ReadError → Result A ReadError → Type 0
+OrNoMemory answer meant = (answer ≡ meant) ⊎ (answer ≡ Err NoMemory)

@@ -6,12 +6,14 @@ use Rattle.life_script.specs.declared.scenario.CallItem.{CallItem}
 use Rattle.life_script.specs.declared.scenario.PollItem.{PollItem}
 use Rattle.life_script.specs.declared.scenario.Step.{Step}
 
+-- the script of one request
 pub record ScriptView : Type 0 where
   pub headers : Headers
   pub body : List BodyItem
   pub call : CallItem
   pub polls : List PollItem
 
+-- the scripts of the requests, the steps, and the time of the end in nanoseconds
 pub record ScenarioView : Type 0 where
   pub requests : List ScriptView
   pub steps : List Step

@@ -1,13 +1,14 @@
 -- The exact texts of answers and events.
-use Rattle.std.specs.Prelude.{ℕ, ◌+◌, ◌/◌, ◌%◌, Bool, List, [], ◌∷◌, ◌++◌, codes, decimal, flat_map, nat_lt, nat_le, ◌==◌, ◌&&◌, if◌then◌else◌, unwrap_or}
-use Rattle.life_core.specs.Texts.{shown_in, level_text}
+use Rattle.std.specs.Prelude.{ℕ, ◌+◌, ◌/◌, ◌%◌, Bool, List, [], ◌∷◌, ◌++◌, codes, decimal, flat_map, nat_lt, nat_le, ◌==◌, ◌&&◌, if◌then◌else◌, ℤ, Option, Some, None}
+use Rattle.std.specs.Fmt.{signed_decimal}
+use Rattle.life_core.specs.Texts.{latency_text, level_name}
 use Rattle.http_header.specs.HeaderMap.{Entry, Entries}
 use Rattle.life_core.specs.declared.body.BodyError.{BodyError}
 use Rattle.life_core.specs.declared.body.BodyError.TheVariants.{Elapsed, LengthLimit, Inner}
 use Rattle.life_core.specs.declared.event.DropKind.{DropKind}
 use Rattle.life_core.specs.declared.event.DropKind.TheVariants.{Future, Body}
 use Rattle.life_core.specs.declared.event.Event.{Event}
-use Rattle.life_core.specs.declared.event.Event.TheVariants.{Panic, Handed as HandedFrame, Dropped as DroppedEarly}
+use Rattle.life_core.specs.declared.event.Event.TheVariants as event_
 use Rattle.life_core.specs.declared.event.Handed.{Handed}
 use Rattle.life_core.specs.declared.event.Handed.TheVariants as handed_
 use Rattle.life_core.specs.declared.event.Level.{Level}
@@ -16,6 +17,7 @@ use Rattle.life_core.specs.declared.fault.PanicText.TheVariants.{Known, Unknown}
 use Rattle.life_core.specs.declared.latency.Latency.{Latency}
 use Rattle.life_core.specs.declared.fields.Shown.{Shown}
 use Rattle.life_core.specs.declared.fields.Shown.TheVariants.{Plain, Sensitive}
+use Rattle.life_core.specs.declared.span.Span.{Span}
 use Rattle.life_script.specs.declared.answer.Answer.{Answer}
 use Rattle.life_script.specs.declared.answer.Answer.TheVariants.{Called, Idle, Pending, Response, ServiceError, Frame, End, Fault, Dropped}
 use Rattle.life_script.specs.declared.answer.Seen.{Seen}
@@ -43,10 +45,10 @@ shown bytes = codes "\"" ++ flat_map escaped bytes ++ codes "\""
 abbrev pub end_text : Bool → List ℕ
 end_text ended = if ended then codes "ended" else codes "open"
 
--- texts with commas between them
-abbrev pub joined : {A : Type 0} → (A → List ℕ) → List A → List ℕ
-joined text [] = []
-joined text (first ∷ others) = text first ++ flat_map (λ other. codes ", " ++ text other) others
+-- texts with a separator between them
+abbrev pub joined : {A : Type 0} → List ℕ → (A → List ℕ) → List A → List ℕ
+joined separator text [] = []
+joined separator text (first ∷ others) = text first ++ flat_map (λ other. separator ++ text other) others
 
 -- a header's value
 abbrev pub value_text : Shown → List ℕ
@@ -55,7 +57,7 @@ value_text Sensitive = codes "Sensitive"
 
 -- a header's values
 abbrev pub values_text : List Shown → List ℕ
-values_text values = joined value_text values
+values_text values = joined (codes ", ") value_text values
 
 -- a header's name with its values
 abbrev pub entry_text : Entry Shown → List ℕ
@@ -63,7 +65,7 @@ entry_text entry = entry.0 ++ codes ": [" ++ values_text entry.1 ++ codes "]"
 
 -- headers
 abbrev pub fields_text : Entries Shown → List ℕ
-fields_text entries = codes "{" ++ joined entry_text entries ++ codes "}"
+fields_text entries = codes "{" ++ joined (codes ", ") entry_text entries ++ codes "}"
 
 -- a chunk
 abbrev pub chunk_text : List ℕ → List ℕ
@@ -107,11 +109,7 @@ kind_text (Body status) = codes "body " ++ decimal status
 
 -- what was dropped early, and how long after its call
 abbrev pub dropped_text : DropKind → Latency → List ℕ
-dropped_text what latency = codes "dropped " ++ kind_text what ++ codes " latency " ++ shown_in latency.unit latency.nanos
-
--- a level's name
-abbrev pub level_name : Level → List ℕ
-level_name level = unwrap_or (level_text level) []
+dropped_text what latency = codes "dropped " ++ kind_text what ++ codes " latency " ++ latency_text latency
 
 -- what a panic said
 abbrev pub said_text : PanicText → List ℕ
@@ -132,11 +130,56 @@ handed_text handed_.LengthLimit = fault_text LengthLimit
 handed_text handed_.Elapsed = fault_text Elapsed
 handed_text (handed_.Inner fault) = fault_text (Inner fault)
 
+-- a key with its value, as they are
+abbrev pub pair_text : List ℕ × List ℕ → List ℕ
+pair_text pair = pair.0 ++ codes "=" ++ pair.1
+
+-- headers after a word, where they are told
+abbrev pub told_headers_text : List ℕ → Option (Entries Shown) → List ℕ
+told_headers_text word None = []
+told_headers_text word (Some headers) = word ++ fields_text headers
+
+-- a span, without its level
+abbrev pub span_text : Span → List ℕ
+span_text span = span.name ++ codes "{" ++ joined (codes " ") pair_text span.fields ++ told_headers_text (codes " headers=") span.headers ++ codes "}"
+
+-- a status of HTTP or of gRPC, where there is one
+abbrev pub status_text : Option ℤ → List ℕ
+status_text None = codes "none"
+status_text (Some status) = signed_decimal status
+
+-- a request that was called
+abbrev pub started_text : Level → Span → List ℕ
+started_text level span = codes "started " ++ level_name level ++ codes " " ++ span_text span
+
+-- a response that came
+abbrev pub finished_text : Level → Latency → Option ℤ → Option (Entries Shown) → List ℕ
+finished_text level latency status headers =
+    codes "finished " ++ level_name level ++ codes " latency " ++ latency_text latency ++ codes " status " ++ status_text status ++ told_headers_text (codes " headers ") headers
+
+-- a body that ended
+abbrev pub ended_text : Level → Latency → Option ℤ → List ℕ
+ended_text level duration status =
+    codes "eos " ++ level_name level ++ codes " duration " ++ latency_text duration ++ codes " status " ++ status_text status
+
+-- a failure
+abbrev pub failed_text : Level → List ℕ → Latency → List ℕ
+failed_text level class latency = codes "failed " ++ level_name level ++ codes " " ++ shown class ++ codes " latency " ++ latency_text latency
+
+-- a chunk that passed
+abbrev pub passed_text : ℕ → Latency → List ℕ
+passed_text bytes latency = codes "chunk " ++ decimal bytes ++ codes " latency " ++ latency_text latency
+
 -- an event
 abbrev pub event_text : Event → List ℕ
-event_text (Panic level text) = panic_text level text
-event_text (HandedFrame got) = codes "handed " ++ handed_text got
-event_text (DroppedEarly what latency) = dropped_text what latency
+event_text (event_.Started level span) = started_text level span
+event_text (event_.Finished level latency status headers) = finished_text level latency status headers
+event_text (event_.Ended level duration status) = ended_text level duration status
+event_text (event_.Failed level class latency) = failed_text level class latency
+event_text (event_.Chunk bytes latency) = passed_text bytes latency
+event_text (event_.Panic level text) = panic_text level text
+event_text (event_.Handed got) = codes "handed " ++ handed_text got
+event_text (event_.Dropped what latency) = dropped_text what latency
 
 -- what a client does
 abbrev pub act_text : Act → List ℕ

@@ -1,5 +1,5 @@
 -- Which scenarios are valid.
-use Rattle.std.specs.Prelude.{◌≡◌, ℕ, ◌+◌, ◌≤◌, ◌||◌, slice_get, Bool, false, List, position, [], ◌∷◌, length, Option, Some, None, Result, Ok, Err, nat_lt, if◌then◌else◌}
+use Rattle.std.specs.Prelude.{◌≡◌, ℕ, ◌+◌, ◌≤◌, ◌||◌, slice_get, Bool, false, List, position, [], ◌∷◌, length, Option, Some, None, Result, Ok, Err, nat_lt, if◌then◌else◌, ⊤}
 use Rattle.std.specs.List.{list_any}
 use Rattle.life_script.specs.Headers.{Headers}
 use Rattle.life_script.specs.declared.checks.TheConstants.{MAX_HEADER_VALUES}
@@ -7,6 +7,7 @@ use Rattle.life_script.specs.declared.error.DriveError.{DriveError}
 use Rattle.life_script.specs.declared.error.DriveError.TheVariants.{TooManyHeaders, ClockBack, NoRequest}
 use Rattle.life_script.specs.declared.scenario.BodyItem.{BodyItem}
 use Rattle.life_script.specs.declared.scenario.BodyItem.TheVariants.{Chunk, Trailers, Pending as PendingItem, Fault}
+use Rattle.life_script.specs.declared.scenario.PollItem.{PollItem}
 use Rattle.life_script.specs.declared.scenario.Step.{Step}
 use Rattle.life_script.specs.declared.scenario.Then.{Then}
 use Rattle.life_script.specs.declared.scenario.Then.TheVariants.{Pending, Panic, Fail, Respond}
@@ -30,6 +31,7 @@ is_item_over (Fault text) = false
 abbrev pub is_message_over : Headers → List BodyItem → Bool
 is_message_over headers body = is_over headers || list_any is_item_over body
 
+-- the same of a response
 abbrev pub is_reply_over : ReplyView → Bool
 is_reply_over reply = is_message_over reply.headers reply.body
 
@@ -84,8 +86,23 @@ pub record ReplyFits (reply : ReplyView) : Type 0 where
   pub headers : length reply.headers ≤ MAX_HEADER_VALUES
   pub body : BodyFits reply.body
 
+-- no header list of the response that is answered does, if it is one
+abbrev pub ThenFits : Then → Type 0
+ThenFits Pending = ⊤
+ThenFits (Panic text) = ⊤
+ThenFits (Fail text) = ⊤
+ThenFits (Respond reply) = ReplyFits reply
+
+-- no header list of the responses among these items does
+abbrev pub PollsFit : List PollItem → Type 0
+PollsFit polls = (k asks : ℕ) (reply : ReplyView) → slice_get polls k ≡ Some (record { asks = asks; then = Respond reply }) → ReplyFits reply
+
 -- no header list of a script does
 pub record ScriptFits (script : ScriptView) : Type 0 where
   pub headers : length script.headers ≤ MAX_HEADER_VALUES
   pub body : BodyFits script.body
-  pub replies : (k asks : ℕ) (reply : ReplyView) → slice_get script.polls k ≡ Some (record { asks = asks; then = Respond reply }) → ReplyFits reply
+  pub replies : PollsFit script.polls
+
+-- no header list of any of these scripts does
+abbrev pub EachFits : List ScriptView → Type 0
+EachFits scripts = (i : ℕ) (script : ScriptView) → slice_get scripts i ≡ Some script → ScriptFits script

@@ -5,7 +5,9 @@ use life_core::{BodyError, Fields, Octets, Text};
 /// What a frame held.
 #[derive(Debug, Drop)]
 pub enum Seen {
+    /// Bytes of the body.
     Chunk(Octets),
+    /// The trailers after them.
     Trailers(Fields),
 }
 
@@ -16,13 +18,17 @@ pub enum Answer {
     Called,
     /// There was nothing to do.
     Idle,
+    /// What is live is not ready yet.
     Pending,
+    /// The response, whose body is live from now on.
     Response {
         status: StatusCode,
         headers: Fields,
         ended: bool,
     },
+    /// The service failed, and this is the text of its error.
     ServiceError(Text),
+    /// A frame of the live body.
     Frame {
         frame: Seen,
         ended: bool,

@@ -1,7 +1,7 @@
 //! Which scenarios are driven.
-ghost use Rattle.std.specs.Prelude.{◌≡◌, ◌<◌, None, length, position, IfSome};
+ghost use Rattle.std.specs.Prelude.{◌≡◌, ◌<◌, None, length, position, IfSome, IsOk};
 ghost use Rattle.std.specs.List.{list_any};
-ghost use Rattle.life_script.specs.Valid.{is_over, is_item_over, is_message_over, is_reply_over, is_then_over, is_script_over, is_back, verdict, verdict_from};
+ghost use Rattle.life_script.specs.Valid.{EachFits, is_over, is_item_over, is_message_over, is_reply_over, is_then_over, is_script_over, is_back, verdict, verdict_from};
 
 use crate::error::DriveError;
 use crate::headers::HeaderList;
@@ -112,10 +112,8 @@ fn check_steps(requests: u64, steps: &[Step], end: u64) -> Result<(), DriveError
     Ok(())
 }
 
-/// What is first wrong with a scenario: a request with a header list of over 1,000 values; else a step, or
-/// the end, that is earlier than the step before it, or a step of a request that there is not. It takes no
-/// memory.
-pub fn check(scenario: &Scenario) -> Result<(), DriveError>
+/// What is first wrong with the headers of a scenario, or else with its steps.
+fn first_fault(scenario: &Scenario) -> Result<(), DriveError>
     ensures { result ≡ verdict scenario.now }
 {
     match first_over(scenario.requests.as_slice()) {
@@ -126,4 +124,14 @@ pub fn check(scenario: &Scenario) -> Result<(), DriveError>
             scenario.end,
         ),
     }
+}
+
+/// What is first wrong with a scenario: a request with a header list of over 1,000 values; else a step, or
+/// the end, that is earlier than the step before it, or a step of a request that there is not. It takes no
+/// memory.
+pub fn check(scenario: &Scenario) -> Result<(), DriveError>
+    ensures verdict { result ≡ verdict scenario.now }
+    ensures fits { IsOk result → EachFits scenario.now.requests }
+{
+    first_fault(scenario)
 }

@@ -1,4 +1,10 @@
 //! Why a scenario is not driven.
+ghost use Rattle.std.specs.Prelude.{◌≡◌};
+ghost use Rattle.life_script.specs.declared.error.DriveError.TheVariants as drive_error;
+ghost use Rattle.life_script.specs.declared.error.ReadError.TheVariants as read_error;
+
+use life_core::NoMemory;
+use thiserror::Error;
 
 /// Why a scenario is not driven.
 #[derive(Clone, Copy, Debug)]
@@ -10,15 +16,36 @@ pub enum DriveError {
     ClockBack(u64),
     /// The step of this number is of a request that is not there.
     NoRequest(u64),
+    /// Memory is wanted.
     NoMemory,
 }
 
+impl From<NoMemory> for DriveError {
+    ghost from_gives = { λ _ error. error ≡ drive_error.NoMemory };
+
+    fn from(_: NoMemory) -> DriveError {
+        DriveError::NoMemory
+    }
+}
+
 /// Why bytes are not read as a scenario.
-#[derive(Clone, Copy, Debug)]
+#[derive(Clone, Copy, Debug, Error)]
 pub enum ReadError {
     /// They have not the shape of a scenario.
+    #[error("bad scenario")]
     BadScenario,
     /// They ask for what is not there yet.
+    #[error("not built")]
     NotBuilt,
+    /// Memory is wanted.
+    #[error("out of memory")]
     NoMemory,
+}
+
+impl From<NoMemory> for ReadError {
+    ghost from_gives = { λ _ error. error ≡ read_error.NoMemory };
+
+    fn from(_: NoMemory) -> ReadError {
+        ReadError::NoMemory
+    }
 }

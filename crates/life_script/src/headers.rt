@@ -1,8 +1,9 @@
 //! Header fields as they are scripted.
-ghost use Rattle.std.specs.Prelude.{◌≡◌, [], ◌∷◌, ◌++◌, length, IfOk, OnOk, OnErr};
+ghost use Rattle.std.specs.Prelude.{◌≡◌, ◌≤◌, [], ◌∷◌, ◌++◌, length, IfOk, OnOk, OnErr};
 ghost use Rattle.life_script.specs.Headers.{map_of};
+ghost use Rattle.life_script.specs.declared.checks.TheConstants.{MAX_HEADER_VALUES};
 
-use http::{HeaderMap, HeaderName, HeaderValue};
+use http::header::{HeaderMap, HeaderMapError, HeaderName, HeaderValue};
 use life_core::{Got, List, NoMemory, Twin};
 use std::alloc::Global;
 use std::marker::Model;
@@ -18,7 +19,7 @@ impl Model for HeaderList {
 
     ghost Value = { Headers };
 
-    ghost view = { λ h. h.pairs.items };
+    ghost view = { λ headers. headers.pairs.items };
 }
 
 impl HeaderList {
@@ -38,7 +39,7 @@ impl HeaderList {
         HeaderList { pairs }
     }
 
-    /// Puts a field at the end. The one error is want of memory, and then the fields stay.
+    /// Puts a field at the end. After an error the fields stay as they were.
     pub fn push(&mut self, name: HeaderName, value: HeaderValue) -> Got<()>
         ensures put { OnOk result (self.new ≡ self.old ++ (name, value) ∷ []) }
         ensures kept { OnErr result (self.new ≡ self.old) }
@@ -60,15 +61,19 @@ impl HeaderList {
         self.pairs.as_slice()
     }
 
-    /// The map of these fields: each value stands after those of its name before it. An error is want of
-    /// memory, or of a place in the map, of which a list of 1,000 fields never runs out.
+    /// The map of these fields: each value stands after those of its name before it. So few never run out of
+    /// places in the map.
     pub fn to_map(&self, alloc: Global) -> Got<HeaderMap<HeaderValue>>
+        requires { length self.now ≤ MAX_HEADER_VALUES }
         ensures { IfOk result (λ map. map ≡ map_of self.now) }
     {
         let mut map = HeaderMap::new(alloc);
         for (name, value) in self.as_slice() {
-            map.append(name.clone()?, value.clone()?)
-                .map_err(|_| NoMemory)?;
+            match map.append(name.clone()?, value.clone()?) {
+                Ok(_) => (),
+                Err(HeaderMapError::MaxSizeReached) => unreachable!(),
+                Err(HeaderMapError::OutOfMemory) => return Err(NoMemory),
+            }
         }
         Ok(map)
     }

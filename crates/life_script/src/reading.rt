@@ -1,7 +1,7 @@
 //! Scenarios read from bytes.
 ghost use Rattle.std.specs.Prelude.{◌≡◌, IfOk};
 ghost use Rattle.serde_json.specs.View.{view};
-ghost use Rattle.life_script.specs.Reading.{Bad, built, Reads, IsBadScenario, IsNotBuilt, is_version_1, scenario_part, shape};
+ghost use Rattle.life_script.specs.Reading.{Bad, OrNoMemory, if_built, Reads, IsBadScenario, IsNotBuilt, is_version_1, scenario_part, shape};
 
 mod client;
 mod fields;
@@ -19,9 +19,23 @@ use serde_json::Value;
 use std::alloc::Global;
 
 /// Reads a scenario. It is bad where the bytes are not UTF-8 or not JSON, or have not the shape of a
-/// scenario; it is not built where they have, and something in it is not there yet.
+/// scenario; it is not built where they have, and something in it is not there yet. So each answer but want
+/// of memory comes by its cause, and by nothing else.
 pub fn read_scenario(alloc: Global, bytes: &[u8]) -> Result<(Limits, Scenario), ReadError>
-    ensures read { IfOk result (λ p. Reads bytes.now p.0 p.1) }
+    ensures read { IfOk result (λ read. Reads bytes.now read.0 read.1) }
+    ensures bad { result ≡ Err ReadError.BadScenario → IsBadScenario bytes.now }
+    ensures not_built { result ≡ Err ReadError.NotBuilt → IsNotBuilt bytes.now }
+    ensures whole { (limits : _) (scenario : _) → Reads bytes.now limits scenario
+        → OrNoMemory result (Ok (limits, scenario)) }
+    ensures each_bad { IsBadScenario bytes.now → OrNoMemory result (Err ReadError.BadScenario) }
+    ensures each_unbuilt { IsNotBuilt bytes.now → OrNoMemory result (Err ReadError.NotBuilt) }
+{
+    read_text(alloc, bytes)
+}
+
+/// The same, by the tree of the text.
+fn read_text(alloc: Global, bytes: &[u8]) -> Result<(Limits, Scenario), ReadError>
+    ensures read { IfOk result (λ read. Reads bytes.now read.0 read.1) }
     ensures bad { result ≡ Err ReadError.BadScenario → IsBadScenario bytes.now }
     ensures not_built { result ≡ Err ReadError.NotBuilt → IsNotBuilt bytes.now }
 {
@@ -42,7 +56,7 @@ pub fn read_scenario(alloc: Global, bytes: &[u8]) -> Result<(Limits, Scenario), 
 
 /// Reads the tree of a text.
 fn read_top(alloc: Global, top: &Value) -> Built<(Limits, Scenario)>
-    ensures ok { IfOk result (λ p. shape (view top.now) ≡ built p) }
+    ensures ok { IfOk result (λ read. shape (view top.now) ≡ if_built read) }
     ensures bad { result ≡ Err ReadError.BadScenario → shape (view top.now) ≡ Bad }
     ensures never { ¬ (result ≡ Err ReadError.NotBuilt) }
 {
@@ -69,7 +83,7 @@ fn is_version_1(top: &Value) -> bool
 
 /// Reads the requests, the steps and the end.
 fn read_parts(alloc: Global, top: &Value) -> Built<Scenario>
-    ensures ok { IfOk result (λ s. scenario_part (view top.now) ≡ built s) }
+    ensures ok { IfOk result (λ scenario. scenario_part (view top.now) ≡ if_built scenario) }
     ensures bad { result ≡ Err ReadError.BadScenario → scenario_part (view top.now) ≡ Bad }
     ensures never { ¬ (result ≡ Err ReadError.NotBuilt) }
 {

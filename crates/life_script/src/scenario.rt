@@ -3,18 +3,19 @@ ghost use Rattle.std.specs.Prelude.{◌≡◌, IfOk};
 
 use crate::headers::HeaderList;
 use http::{HeaderName, StatusCode};
-use life_core::{Got, List, Octets, PanicText, Text, Twin};
+use life_core::{Got, List, NoMemory, Octets, PanicText, Text, Twin};
 use std::alloc::Global;
 use std::marker::Model;
+use std::rc::Rc;
 
-/// How the layers are set. Times are in nanoseconds.
+/// How the layers are set.
 #[derive(Debug, Drop)]
 pub struct Limits {
-    /// How long a response may take.
+    /// How long a response may take, in nanoseconds.
     pub timeout: u64,
     /// The status where it takes longer.
     pub timeout_status: StatusCode,
-    /// How long a response's body may take.
+    /// How long a response's body may take, in nanoseconds.
     pub body_deadline: u64,
     /// How many bytes a request's body may have.
     pub byte_limit: u64,
@@ -42,8 +43,11 @@ impl Twin for Limits {
 /// What a body gives at one poll.
 #[derive(Debug, Drop)]
 pub enum BodyItem {
+    /// Bytes.
     Chunk(Octets),
+    /// Trailers.
     Trailers(HeaderList),
+    /// Nothing yet.
     Pending,
     /// A fault, of which this is the text.
     Fault(Text),
@@ -63,12 +67,26 @@ impl Twin for BodyItem {
     }
 }
 
+/// A list, to be shared.
+pub(crate) fn share_list<T: Drop>(alloc: Global, items: List<T>) -> Got<Rc<List<T>>>
+    ensures { IfOk result (λ shared. shared.value.items ≡ items.items) }
+{
+    match Rc::new(alloc, items) {
+        Ok(shared) => Ok(shared),
+        Err(_) => Err(NoMemory),
+    }
+}
+
 /// A scripted response. Its body tells its end exactly where `tells` holds and its items are used up.
 #[derive(Debug, Drop)]
 pub struct Reply {
+    /// Its status.
     pub status: StatusCode,
+    /// Its headers.
     pub headers: HeaderList,
-    pub body: BodyItems,
+    /// What its body gives, to be shared.
+    pub body: Rc<BodyItems>,
+    /// Whether its body tells its end.
     pub tells: bool,
 }
 
@@ -77,13 +95,18 @@ impl Model for Reply {
 
     ghost Value = { ReplyView };
 
-    ghost view = { λ r. record { status = r.status; headers = r.headers; body = r.body.items; tells = r.tells } };
+    ghost view = { λ reply. record {
+      status = reply.status;
+      headers = reply.headers;
+      body = reply.body.value.items;
+      tells = reply.tells;
+    } };
 }
 
 impl Twin for Reply {
     fn twin(&self, alloc: Global) -> Got<Reply> {
         let headers = self.headers.twin(alloc)?;
-        let body = self.body.twin_items(alloc)?;
+        let body = self.body.clone()?;
         Ok(Reply {
             status: self.status,
             headers,
@@ -96,11 +119,13 @@ impl Twin for Reply {
 /// What the scripted service answers at one poll.
 #[derive(Debug, Drop)]
 pub enum Then {
+    /// Nothing yet.
     Pending,
     /// A panic.
     Panic(PanicText),
     /// An error, of which this is the text.
     Fail(Text),
+    /// A response.
     Respond(Reply),
 }
 
@@ -110,6 +135,7 @@ pub struct PollItem {
     /// How often it asks for a frame of the request's body before it answers. A scenario that is read has
     /// at most 16.
     pub asks: u8,
+    /// What it answers then.
     pub then: Then,
 }
 
@@ -136,6 +162,7 @@ impl Twin for PollItem {
 pub enum CallItem {
     /// It takes the request, and goes on poll by poll.
     Serve,
+    /// It panics.
     Panic(PanicText),
 }
 
@@ -153,10 +180,12 @@ impl Twin for CallItem {
 pub struct Script {
     /// The headers of the request.
     pub headers: HeaderList,
-    /// The body of the request.
-    pub body: BodyItems,
+    /// What the body of the request gives, to be shared.
+    pub body: Rc<BodyItems>,
+    /// What the service does when it is called with the request.
     pub call: CallItem,
-    pub polls: PollItems,
+    /// What the service does then, poll by poll, to be shared.
+    pub polls: Rc<PollItems>,
 }
 
 impl Model for Script {
@@ -164,15 +193,20 @@ impl Model for Script {
 
     ghost Value = { ScriptView };
 
-    ghost view = { λ s. record { headers = s.headers; body = s.body.items; call = s.call; polls = s.polls.items } };
+    ghost view = { λ script. record {
+      headers = script.headers;
+      body = script.body.value.items;
+      call = script.call;
+      polls = script.polls.value.items;
+    } };
 }
 
 impl Twin for Script {
     fn twin(&self, alloc: Global) -> Got<Script> {
         let headers = self.headers.twin(alloc)?;
-        let body = self.body.twin_items(alloc)?;
+        let body = self.body.clone()?;
         let call = self.call.twin(alloc)?;
-        let polls = self.polls.twin_items(alloc)?;
+        let polls = self.polls.clone()?;
         Ok(Script {
             headers,
             body,
@@ -188,16 +222,22 @@ pub type Scripts = List<Script>;
 /// What a client does with a request.
 #[derive(Clone, Copy, Debug)]
 pub enum Act {
+    /// Calls the stack with it.
     Call,
+    /// Polls what is live of it: its future, or the body of its response.
     Poll,
+    /// Abandons what is live of it.
     Drop,
 }
 
-/// An act at a time, in nanoseconds, with the request of a number.
+/// An act with one request, at a time.
 #[derive(Clone, Copy, Debug)]
 pub struct Step {
+    /// The time, in nanoseconds.
     pub at: u64,
+    /// The number of the request; the first has 0.
     pub request: u64,
+    /// What is done.
     pub act: Act,
 }
 
@@ -213,8 +253,11 @@ pub type Steps = List<Step>;
 /// The requests that are made, the steps and the time of the end, in nanoseconds.
 #[derive(Debug, Drop)]
 pub struct Scenario {
+    /// The scripts of the requests.
     pub requests: Scripts,
+    /// What the client does.
     pub steps: Steps,
+    /// The time of the end, in nanoseconds.
     pub end: u64,
 }
 
@@ -223,5 +266,9 @@ impl Model for Scenario {
 
     ghost Value = { ScenarioView };
 
-    ghost view = { λ s. record { requests = s.requests.items; steps = s.steps.items; end = s.end } };
+    ghost view = { λ scenario. record {
+      requests = scenario.requests.items;
+      steps = scenario.steps.items;
+      end = scenario.end;
+    } };
 }

@@ -1,12 +1,15 @@
 //! The exact texts of answers and events.
-ghost use Rattle.std.specs.Prelude.{◌≡◌, ◌<◌, [], ◌∷◌, ◌++◌, decimal, OnOk, IfOk};
-ghost use Rattle.life_script.specs.Texts.{hex_digit, escaped, shown, end_text, joined, value_text, values_text, entry_text, fields_text, chunk_text, trailers_text, seen_text, inner_text, fault_text, answer_text, kind_text, dropped_text, level_name, said_text, panic_text, handed_text, event_text, act_text};
+ghost use Rattle.std.specs.Prelude.{◌≡◌, ◌<◌, [], ◌∷◌, ◌++◌, codes, decimal, flat_map, IsTrue, OnOk, IfOk};
+ghost use Rattle.std.specs.Fmt.{signed_decimal};
+ghost use Rattle.life_core.specs.Texts.{last_digits, fraction_text, latency_text, level_name};
+ghost use Rattle.life_script.specs.Texts.{hex_digit, escaped, shown, end_text, joined, value_text, values_text, entry_text, fields_text, chunk_text, trailers_text, seen_text, inner_text, fault_text, answer_text, kind_text, dropped_text, said_text, panic_text, handed_text, pair_text, told_headers_text, span_text, status_text, started_text, finished_text, ended_text, failed_text, passed_text, event_text, act_text};
 
 use crate::answer::{Answer, Seen};
 use crate::scenario::Act;
+use itoa::Buffer;
 use life_core::{
-    BodyError, DropKind, Event, Field, Fields, Got, Handed, Latency, Level, Octets, PanicText,
-    Shown, Text,
+    BodyError, DropKind, Event, Field, Fields, Fraction, Got, Handed, Latency, LatencyUnit, Level,
+    Octets, PanicText, Shown, Span, Text,
 };
 use std::alloc::Global;
 use std::marker::Model;
@@ -33,6 +36,16 @@ fn hex_digit(n: u8) -> u8
     if n < 10 { b'0' + n } else { b'a' - 10 + n }
 }
 
+/// Whether a byte is put as itself.
+fn is_plain(byte: u8) -> bool
+    ensures { IsTrue result → escaped byte ≡ byte ∷ [] }
+{
+    match byte {
+        b'"' | b'\\' => false,
+        _ => matches!(byte, 32..=126),
+    }
+}
+
 impl TextBuilder {
     /// The empty text. It takes no memory.
     pub fn new(alloc: Global) -> TextBuilder
@@ -51,7 +64,7 @@ impl TextBuilder {
         Octets::from_vec(bytes)
     }
 
-    /// Puts one byte at the end. The one error is want of memory, as of each of these.
+    /// Puts one byte at the end.
     fn byte(&mut self, byte: u8) -> Got<()>
         ensures { OnOk result (self.new ≡ self.old ++ byte ∷ []) }
     {
@@ -67,7 +80,7 @@ impl TextBuilder {
         Ok(())
     }
 
-    /// Puts a text at the end. The one error is want of memory, as of each of these.
+    /// Puts a text at the end.
     pub fn text(&mut self, text: &str) -> Got<()>
         ensures { OnOk result (self.new ≡ self.old ++ text.now) }
     {
@@ -75,11 +88,30 @@ impl TextBuilder {
     }
 
     /// Puts a number in decimal at the end.
-    pub fn number(&mut self, alloc: Global, number: u64) -> Got<()>
+    pub fn number(&mut self, number: u64) -> Got<()>
         ensures { OnOk result (self.new ≡ self.old ++ decimal number) }
     {
-        let digits = number.to_string(alloc)?;
-        self.text(digits.as_str())
+        let mut buffer = Buffer::new();
+        self.text(buffer.format(number))
+    }
+
+    /// Puts a number in decimal at the end, after a minus where it is negative.
+    fn signed_number(&mut self, number: i32) -> Got<()>
+        ensures { OnOk result (self.new ≡ self.old ++ signed_decimal number) }
+    {
+        let mut buffer = Buffer::new();
+        self.text(buffer.format(number))
+    }
+
+    /// Puts so many of a number's last decimal digits at the end, with zeros in front where it has fewer.
+    fn last_digits(&mut self, width: usize, number: u64) -> Got<()>
+        ensures { OnOk result (self.new ≡ self.old ++ last_digits width number) }
+    {
+        if width == 0 {
+            return Ok(());
+        }
+        self.last_digits(width - 1, number / 10)?;
+        self.byte(b'0' + (number % 10) as u8)
     }
 
     /// Puts a byte at the end, escaped where it is no printed one.
@@ -94,14 +126,29 @@ impl TextBuilder {
         }
     }
 
+    /// Puts bytes at the end, each escaped where it is no printed one. Those between two escapes are put at
+    /// once.
+    fn escapes(&mut self, bytes: &[u8]) -> Got<()>
+        ensures { OnOk result (self.new ≡ self.old ++ flat_map escaped bytes.now) }
+    {
+        // how many bytes were put
+        let mut done = 0;
+        for (i, byte) in bytes.iter().enumerate() {
+            if !is_plain(*byte) {
+                self.bytes(&bytes[done..i])?;
+                self.escaped(*byte)?;
+                done = i + 1;
+            }
+        }
+        self.bytes(&bytes[done..])
+    }
+
     /// Puts bytes between quotes at the end, each escaped where it is no printed one.
     fn shown(&mut self, bytes: &[u8]) -> Got<()>
         ensures { OnOk result (self.new ≡ self.old ++ shown bytes.now) }
     {
         self.byte(b'"')?;
-        for byte in bytes {
-            self.escaped(*byte)?;
-        }
+        self.escapes(bytes)?;
         self.byte(b'"')
     }
 
@@ -156,7 +203,7 @@ impl TextBuilder {
 
     /// Puts headers at the end, with commas between them.
     fn entries(&mut self, entries: &[Field]) -> Got<()>
-        ensures { OnOk result (self.new ≡ self.old ++ joined entry_text entries.now) }
+        ensures { OnOk result (self.new ≡ self.old ++ joined (codes ", ") entry_text entries.now) }
     {
         let [first, others @ ..] = entries else {
             return Ok(());
@@ -224,7 +271,7 @@ impl TextBuilder {
     }
 
     /// Puts an answer at the end.
-    pub fn answer(&mut self, alloc: Global, answer: &Answer) -> Got<()>
+    pub fn answer(&mut self, answer: &Answer) -> Got<()>
         ensures { OnOk result (self.new ≡ self.old ++ answer_text answer.now) }
     {
         match answer {
@@ -237,7 +284,7 @@ impl TextBuilder {
                 ended,
             } => {
                 self.text("response ")?;
-                self.number(alloc, status.as_u16() as u64)?;
+                self.number(status.as_u16() as u64)?;
                 self.text(" ")?;
                 self.end(*ended)?;
                 self.text(" ")?;
@@ -259,35 +306,65 @@ impl TextBuilder {
     }
 
     /// Puts at the end what was dropped before its end.
-    fn kind(&mut self, alloc: Global, kind: &DropKind) -> Got<()>
+    fn kind(&mut self, kind: &DropKind) -> Got<()>
         ensures { OnOk result (self.new ≡ self.old ++ kind_text kind.now) }
     {
         match kind {
             DropKind::Future => self.text("future"),
             DropKind::Body(status) => {
                 self.text("body ")?;
-                self.number(alloc, status.as_u16() as u64)
+                self.number(status.as_u16() as u64)
+            }
+        }
+    }
+
+    /// Puts at the end what nanoseconds are more than whole seconds, after a point.
+    fn fraction(&mut self, nanos: u64) -> Got<()>
+        ensures { OnOk result (self.new ≡ self.old ++ fraction_text nanos) }
+    {
+        match Fraction::of_second(nanos) {
+            None => Ok(()),
+            Some(Fraction { number, width }) => {
+                self.text(".")?;
+                self.last_digits(width, number)
+            }
+        }
+    }
+
+    /// Puts a length of time at the end, in its unit.
+    fn latency(&mut self, latency: &Latency) -> Got<()>
+        ensures { OnOk result (self.new ≡ self.old ++ latency_text latency.now) }
+    {
+        let nanos = latency.nanos;
+        match latency.unit {
+            LatencyUnit::Seconds => {
+                self.number(nanos / 1_000_000_000)?;
+                self.fraction(nanos)?;
+                self.text(" s")
+            }
+            LatencyUnit::Millis => {
+                self.number(nanos / 1_000_000)?;
+                self.text(" ms")
+            }
+            LatencyUnit::Micros => {
+                self.number(nanos / 1_000)?;
+                self.text(" μs")
+            }
+            LatencyUnit::Nanos => {
+                self.number(nanos)?;
+                self.text(" ns")
             }
         }
     }
 
     /// Puts at the end what was dropped early, and how long after its call.
-    fn dropped(&mut self, alloc: Global, what: &DropKind, latency: &Latency) -> Got<()>
+    fn dropped(&mut self, what: &DropKind, latency: &Latency) -> Got<()>
         ensures { OnOk result (self.new ≡ self.old ++ dropped_text what.now latency.now) }
     {
         self.text("dropped ")?;
-        self.kind(alloc, what)?;
+        self.kind(what)?;
         self.text(" latency ")?;
-        let shown = latency.to_string(alloc)?;
-        self.text(shown.as_str())
-    }
-
-    /// Puts a level's name at the end.
-    fn level(&mut self, alloc: Global, level: &Level) -> Got<()>
-        ensures { OnOk result (self.new ≡ self.old ++ level_name level.now) }
-    {
-        let name = level.to_string(alloc)?;
-        self.text(name.as_str())
+        self.latency(latency)
     }
 
     /// Puts what a panic said at the end.
@@ -301,11 +378,11 @@ impl TextBuilder {
     }
 
     /// Puts a panic at the end.
-    fn panicked(&mut self, alloc: Global, level: &Level, text: &PanicText) -> Got<()>
-        ensures { OnOk result (self.new ≡ self.old ++ panic_text level.now text.now) }
+    fn panicked(&mut self, level: Level, text: &PanicText) -> Got<()>
+        ensures { OnOk result (self.new ≡ self.old ++ panic_text level text.now) }
     {
         self.text("panic ")?;
-        self.level(alloc, level)?;
+        self.text(level.name())?;
         self.text(" ")?;
         self.said(text)
     }
@@ -325,17 +402,159 @@ impl TextBuilder {
         }
     }
 
+    /// Puts a key with its value at the end, as they are.
+    fn pair(&mut self, pair: &(Text, Text)) -> Got<()>
+        ensures { OnOk result (self.new ≡ self.old ++ pair_text pair.now) }
+    {
+        let (key, value) = pair;
+        self.text(key.as_str())?;
+        self.text("=")?;
+        self.text(value.as_str())
+    }
+
+    /// Puts keys with their values at the end, with spaces between them.
+    fn pairs(&mut self, pairs: &[(Text, Text)]) -> Got<()>
+        ensures { OnOk result (self.new ≡ self.old ++ joined (codes " ") pair_text pairs.now) }
+    {
+        let [first, others @ ..] = pairs else {
+            return Ok(());
+        };
+        self.pair(first)?;
+        for pair in others {
+            self.text(" ")?;
+            self.pair(pair)?;
+        }
+        Ok(())
+    }
+
+    /// Puts headers at the end after a word, where they are told.
+    fn told_headers(&mut self, word: &str, headers: &Option<Fields>) -> Got<()>
+        ensures { OnOk result (self.new ≡ self.old ++ told_headers_text word.now headers.now) }
+    {
+        match headers {
+            None => Ok(()),
+            Some(headers) => {
+                self.text(word)?;
+                self.fields(headers)
+            }
+        }
+    }
+
+    /// Puts a span at the end, without its level.
+    fn span(&mut self, span: &Span) -> Got<()>
+        ensures { OnOk result (self.new ≡ self.old ++ span_text span.now) }
+    {
+        self.text(span.name.as_str())?;
+        self.text("{")?;
+        self.pairs(span.fields.as_slice())?;
+        self.told_headers(" headers=", &span.headers)?;
+        self.text("}")
+    }
+
+    /// Puts a status of HTTP or of gRPC at the end, where there is one.
+    fn status(&mut self, status: Option<i32>) -> Got<()>
+        ensures { OnOk result (self.new ≡ self.old ++ status_text status) }
+    {
+        match status {
+            None => self.text("none"),
+            Some(status) => self.signed_number(status),
+        }
+    }
+
+    /// Puts a request that was called at the end.
+    fn started(&mut self, level: Level, span: &Span) -> Got<()>
+        ensures { OnOk result (self.new ≡ self.old ++ started_text level span.now) }
+    {
+        self.text("started ")?;
+        self.text(level.name())?;
+        self.text(" ")?;
+        self.span(span)
+    }
+
+    /// Puts a response that came at the end.
+    fn finished(
+        &mut self,
+        level: Level,
+        latency: &Latency,
+        status: Option<i32>,
+        headers: &Option<Fields>,
+    ) -> Got<()>
+        ensures { OnOk result (self.new
+            ≡ self.old ++ finished_text level latency.now status headers.now) }
+    {
+        self.text("finished ")?;
+        self.text(level.name())?;
+        self.text(" latency ")?;
+        self.latency(latency)?;
+        self.text(" status ")?;
+        self.status(status)?;
+        self.told_headers(" headers ", headers)
+    }
+
+    /// Puts a body that ended at the end.
+    fn ended(&mut self, level: Level, duration: &Latency, status: Option<i32>) -> Got<()>
+        ensures { OnOk result (self.new ≡ self.old ++ ended_text level duration.now status) }
+    {
+        self.text("eos ")?;
+        self.text(level.name())?;
+        self.text(" duration ")?;
+        self.latency(duration)?;
+        self.text(" status ")?;
+        self.status(status)
+    }
+
+    /// Puts a failure at the end.
+    fn failed(&mut self, level: Level, class: &Text, latency: &Latency) -> Got<()>
+        ensures { OnOk result (self.new
+            ≡ self.old ++ failed_text level class.now latency.now) }
+    {
+        self.text("failed ")?;
+        self.text(level.name())?;
+        self.text(" ")?;
+        self.shown_text(class)?;
+        self.text(" latency ")?;
+        self.latency(latency)
+    }
+
+    /// Puts a chunk that passed at the end: how many bytes, and after how long.
+    fn passed(&mut self, bytes: u64, latency: &Latency) -> Got<()>
+        ensures { OnOk result (self.new ≡ self.old ++ passed_text bytes latency.now) }
+    {
+        self.text("chunk ")?;
+        self.number(bytes)?;
+        self.text(" latency ")?;
+        self.latency(latency)
+    }
+
     /// Puts an event at the end.
-    pub fn event(&mut self, alloc: Global, event: &Event) -> Got<()>
+    pub fn event(&mut self, event: &Event) -> Got<()>
         ensures { OnOk result (self.new ≡ self.old ++ event_text event.now) }
     {
         match event {
-            Event::Panic { level, text } => self.panicked(alloc, level, text),
+            Event::Started { level, span } => self.started(*level, span),
+            Event::Finished {
+                level,
+                latency,
+                status,
+                headers,
+            } => self.finished(*level, latency, *status, headers),
+            Event::Ended {
+                level,
+                duration,
+                status,
+            } => self.ended(*level, duration, *status),
+            Event::Failed {
+                level,
+                class,
+                latency,
+            } => self.failed(*level, class, latency),
+            Event::Chunk { bytes, latency } => self.passed(*bytes, latency),
+            Event::Panic { level, text } => self.panicked(*level, text),
             Event::Handed { got } => {
                 self.text("handed ")?;
                 self.handed(got)
             }
-            Event::Dropped { what, latency } => self.dropped(alloc, what, latency),
+            Event::Dropped { what, latency } => self.dropped(what, latency),
         }
     }
 
@@ -356,7 +575,7 @@ pub fn answer_text(alloc: Global, answer: &Answer) -> Got<Octets>
     ensures { IfOk result (λ octets. octets ≡ answer_text answer.now) }
 {
     let mut text = TextBuilder::new(alloc);
-    text.answer(alloc, answer)?;
+    text.answer(answer)?;
     Ok(text.finish())
 }
 
@@ -365,6 +584,6 @@ pub fn event_text(alloc: Global, event: &Event) -> Got<Octets>
     ensures { IfOk result (λ octets. octets ≡ event_text event.now) }
 {
     let mut text = TextBuilder::new(alloc);
-    text.event(alloc, event)?;
+    text.event(event)?;
     Ok(text.finish())
 }

@@ -6,7 +6,9 @@ use std::marker::Model;
 /// The answer of a step, and what was recorded in it.
 #[derive(Debug, Drop)]
 pub struct Turn {
+    /// What the step answered.
     pub answer: Answer,
+    /// What was recorded in it.
     pub events: Events,
 }
 
@@ -15,7 +17,7 @@ impl Model for Turn {
 
     ghost Value = { TurnView };
 
-    ghost view = { λ t. record { answer = t.answer; events = t.events.items } };
+    ghost view = { λ turn. record { answer = turn.answer; events = turn.events.items } };
 }
 
 /// Turns in the order of their steps.
@@ -24,7 +26,9 @@ pub type Turns = List<Turn>;
 /// The turns of a request, and what was recorded where it was dropped at the end.
 #[derive(Debug, Drop)]
 pub struct Told {
+    /// Its turns.
     pub turns: Turns,
+    /// What was recorded where it was dropped at the end.
     pub at_end: Events,
 }
 
@@ -33,7 +37,7 @@ impl Model for Told {
 
     ghost Value = { ToldView };
 
-    ghost view = { λ t. record { turns = t.turns.items; at_end = t.at_end.items } };
+    ghost view = { λ told. record { turns = told.turns.items; at_end = told.at_end.items } };
 }
 
 /// What is told of each request, in the order of their numbers.

@@ -24,9 +24,11 @@ script = record {
   polls = record { asks = 0; then = then_.Respond (record { status = 200; headers = []; body = body_item.Chunk (codes "hi") ∷ []; tells = true }) } ∷ [];
 }
 
+-- a call, a poll that answers, one past the deadline, and a drop
 abbrev acts : List Own
 acts = (1, act.Call) ∷ (5, act.Poll) ∷ (30, act.Poll) ∷ (31, act.Drop) ∷ []
 
+-- the poll past the deadline is a fault, and the drop after it is recorded as early
 pub dropped_past_its_deadline : story_by (second_meaning.table (20, numbered 0 script)) acts 40 ≡ record {
   turns = record { answer = ans.Called; events = [] }
       ∷ record { answer = ans.Response 200 [] false; events = [] }

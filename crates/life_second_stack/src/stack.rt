@@ -22,6 +22,7 @@ pub const ROOM: u64 = 1024;
 /// How many nanoseconds after its response a body may still be polled.
 #[derive(Clone, Copy)]
 pub struct Deadline {
+    /// In nanoseconds after the response.
     pub nanos: u64,
 }
 
@@ -36,10 +37,13 @@ pub type SecondStack = ResponseBodyDeadline<
     OnEarlyDropService<CatchPanic<ScriptService, DefaultResponseForPanic>, NoteDrop, NoteDrop>,
 >;
 
+/// A request of the stack, whose body is bounded.
 pub type SecondRequest = Request<Limited<ScriptBody>, Ext>;
 
+/// The future of a call.
 pub type SecondFuture = <SecondStack as Service<SecondRequest, Log>>::Future;
 
+/// The body of a response.
 pub type SecondBody = DeadlineBody<OnEarlyDropBody<UnsyncBoxBody<ScriptBody, Full>, NoteDropped>>;
 
 /// The two layers over the scripted service with its panics caught.
@@ -58,7 +62,7 @@ impl Driven for SecondLayers {
 
     type Ext = Ext;
 
-    ghost use Rattle.life_second_stack.specs.Stack.{Key as SecondKey, second_meaning};
+    ghost use Rattle.life_second_stack.specs.Stack.{SecondKey, second_meaning};
 
     ghost Key = { SecondKey };
 

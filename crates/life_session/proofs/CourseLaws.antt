@@ -3,7 +3,7 @@ use Rattle.std.proofs.Common.{◌≡◌, ◌∙◌, ℕ, List, [], ◌∷◌, �
 use Rattle.http_body.specs.declared.frame.Frame.{Frame}
 use Rattle.http_body.specs.declared.frame.Kind.{Kind}
 use Rattle.http_body.specs.declared.frame.Kind.TheVariants.{Data, Trailers}
-use Rattle.life_core.specs.History.{Adds, Grew, Matches, Said, Waits, Gives, Fails, Waiting, Answered, where_after}
+use Rattle.life_core.specs.History.{Adds, Grew, IsSaid, Said, Waits, Gives, Fails, Waiting, Answered, where_after}
 use Rattle.life_core.specs.Calls.{Calls, Frames, Abandons, Polls}
 use Rattle.life_core.specs.Moment.{Moment}
 use Rattle.life_core.specs.Recorded.{Recorded}
@@ -16,16 +16,16 @@ use Rattle.life_core.specs.declared.recorder.NoMemory.{NoMemory}
 use Rattle.life_script.specs.declared.answer.Answer.TheVariants as ans
 use Rattle.life_script.specs.declared.scenario.Act.TheVariants as act
 use Rattle.life_session.specs.Acts.{NotBefore, Own}
-use Rattle.life_session.specs.Course.{AnsweredAt, AwaitedAt, Course, FollowsCourse, Fresh, Awaited, Streamed, Over, Histories, Standing, StreamedAt, ShowsCourse, after_answer, answered, course_from, course_of, course_places, course_table, frame_told, abandoned, next, recorded, kind_seen, told, Turns}
+use Rattle.life_session.specs.Course.{AnsweredAt, AwaitedAt, Course, FollowsCourse, Fresh, Awaited, Streamed, Over, Histories, Standing, StreamedAt, ShowsCourse, after_answer, answered, course_from, course_of, course_places, course_table, frame_told, abandoned, after_act, recorded, kind_seen, told, Turns}
 use Rattle.life_session.specs.Table.{CalledAt, Dropped, FrameSaid, Framed, Idles, KeepsTable, PollLeft, PollSaid, Polled, Shows, Table}
 use Rattle.life_session.proofs.ActLaws.{not_before_push}
 
 -- THE TABLE OF THE HISTORIES tells the course.
 
 module _ {K H P : Type 0} (h : Histories K H P) where
-  more_course : (k : K) (c : Course P) (acts : List Own) (x : Own) → course_from h k c (acts ++ x ∷ []) ≡ next h k (course_from h k c acts) x
+  more_course : (k : K) (c : Course P) (acts : List Own) (x : Own) → course_from h k c (acts ++ x ∷ []) ≡ after_act h k (course_from h k c acts) x
   more_course k c [] x = refl
-  more_course k c (y ∷ acts) x = more_course k (next h k c y) acts x
+  more_course k c (y ∷ acts) x = more_course k (after_act h k c y) acts x
 
   pub course_told : ShowsCourse h (course_table h) (λ k acts c. course_of h k acts ≡ c)
   course_told = record {
@@ -33,7 +33,7 @@ module _ {K H P : Type 0} (h : Histories K H P) where
     turn = λ k acts c x at in_time. record {
       answer = ap (λ d. answered h k d x) at;
       events = ap (λ d. recorded h k d x) at;
-      course = more_course k Fresh acts x ∙ ap (λ d. next h k d x) at;
+      course = more_course k Fresh acts x ∙ ap (λ d. after_act h k d x) at;
     };
     at_end = λ k acts c t at. ap (λ d. abandoned h k d t) at;
   }
@@ -69,7 +69,7 @@ module _ {K H P S R F B X : Type 0} (calls : Calls S R F) (polls : Polls F (Resu
 
   -- What an answered poll tells and leaves.
   poll_told : (k : K) (acts : List Own) (t0 : ℕ) (past : List ℕ) (t : ℕ) (said : Said H P (List ℕ)) (a : Poll (Result (Response B X) (List ℕ))) (new : F) →
-      Matches st.heads (st.body k t0) said a → At k acts (after_answer h k t0 past t said) → st.future k t0 new (where_after past t a) →
+      IsSaid st.heads (st.body k t0) said a → At k acts (after_answer h k t0 past t said) → st.future k t0 new (where_after past t a) →
       PollSaid ends a (told h k t0 said) × PollLeft (course_places st At) k acts a new
   poll_told k acts t0 past t Waits Pending new m at stands = (refl, record { t0 = t0; past = t ∷ past; course = at; stands = stands })
   poll_told k acts t0 past t (Gives head plan) (Ready (Ok r)) new m at stands =
@@ -98,7 +98,7 @@ module _ {K H P S R F B X : Type 0} (calls : Calls S R F) (polls : Polls F (Resu
   framed k acts b was m (Err e) new now late at p = tt
   framed k acts b was m (Ok a) new now late at p =
       let latest = at.latest m.now late in
-      let i = (stack.body k at.t0).frame at.plan at.past b was m a new now latest at.stands p in
+      let i = (stack.body k at.t0).frame at.plan at.past b was m a new now at.stands p in
       let t = shows.turn k acts (Streamed at.t0 at.plan at.past) (m.now, act.Poll) at.course latest in
       let ended = (stack.body k at.t0).tells at.plan new (m.now ∷ at.past) i.stands in record {
         said = rw (i.answer, ended, t.answer) (frame_said _ _);
@@ -150,12 +150,12 @@ module _ {K H P S R F B X : Type 0} (calls : Calls S R F) (polls : Polls F (Resu
     numbers = a.numbers;
   }
 
-  future_left : (k : K) (acts : List Own) (f : F) (was : Recorded) (m : Moment) (made : Result Unit NoMemory) (now : Recorded) →
+  future_abandoned : (k : K) (acts : List Own) (f : F) (was : Recorded) (m : Moment) (made : Result Unit NoMemory) (now : Recorded) →
       AwaitedAt st At k acts f → abandons f was m made now → IfOk made (λ u. Dropped (course_places st At) table k acts m.now was now)
-  future_left k acts f was m (Err e) now at l = tt
-  future_left k acts f was m (Ok u) now at l =
+  future_abandoned k acts f was m (Err e) now at l = tt
+  future_abandoned k acts f was m (Ok u) now at l =
       let turn = shows.turn k acts (Awaited at.t0 at.past) (m.now, act.Drop) at.course tt in
-      dropped k acts (Awaited at.t0 at.past) m.now was now at.course turn turn.answer turn.course ((stack.future k at.t0).left (Waiting at.past) f was m u now at.stands l)
+      dropped k acts (Awaited at.t0 at.past) m.now was now at.course turn turn.answer turn.course ((stack.future k at.t0).abandoned (Waiting at.past) f was m u now at.stands l)
 
   future_refused : (k : K) (acts : List Own) (f : F) (was : Recorded) (m : Moment) (made : Result Unit NoMemory) (now : Recorded) →
       AwaitedAt st At k acts f → abandons f was m made now → IfErr made (λ e. was.spare ≡ 0)
@@ -163,10 +163,10 @@ module _ {K H P S R F B X : Type 0} (calls : Calls S R F) (polls : Polls F (Resu
   future_refused k acts f was m (Err e) now at l =
       let r = (stack.future k at.t0).refused (Waiting at.past) f was m e now at.stands l in omega (arith, r, stack.future_once k at.t0 (Waiting at.past) m.now)
 
-  answered_left : (k : K) (acts : List Own) (f : F) (was : Recorded) (m : Moment) (made : Result Unit NoMemory) (now : Recorded) →
+  answered_abandoned : (k : K) (acts : List Own) (f : F) (was : Recorded) (m : Moment) (made : Result Unit NoMemory) (now : Recorded) →
       AnsweredAt st At k f → abandons f was m made now → IfOk made (λ u. Adds was now [])
-  answered_left k acts f was m (Err e) now at l = tt
-  answered_left k acts f was m (Ok u) now at l = (stack.future k at.0).left Answered f was m u now at.1 l
+  answered_abandoned k acts f was m (Err e) now at l = tt
+  answered_abandoned k acts f was m (Ok u) now at l = (stack.future k at.0).abandoned Answered f was m u now at.1 l
 
   -- one that answered has nothing to record
   answered_refused : (k : K) (acts : List Own) (f : F) (was : Recorded) (m : Moment) (made : Result Unit NoMemory) (now : Recorded) →
@@ -174,12 +174,12 @@ module _ {K H P S R F B X : Type 0} (calls : Calls S R F) (polls : Polls F (Resu
   answered_refused k acts f was m (Ok u) now at l = tt
   answered_refused k acts f was m (Err e) now at l = let r = (stack.future k at.0).refused Answered f was m e now at.1 l in omega (arith, r)
 
-  body_left : (k : K) (acts : List Own) (b : B) (was : Recorded) (m : Moment) (made : Result Unit NoMemory) (now : Recorded) →
+  body_abandoned : (k : K) (acts : List Own) (b : B) (was : Recorded) (m : Moment) (made : Result Unit NoMemory) (now : Recorded) →
       StreamedAt st At k acts b → body_abandons b was m made now → IfOk made (λ u. Dropped (course_places st At) table k acts m.now was now)
-  body_left k acts b was m (Err e) now at l = tt
-  body_left k acts b was m (Ok u) now at l =
+  body_abandoned k acts b was m (Err e) now at l = tt
+  body_abandoned k acts b was m (Ok u) now at l =
       let turn = shows.turn k acts (Streamed at.t0 at.plan at.past) (m.now, act.Drop) at.course tt in
-      dropped k acts (Streamed at.t0 at.plan at.past) m.now was now at.course turn turn.answer turn.course ((stack.body k at.t0).left at.plan at.past b was m u now at.stands l)
+      dropped k acts (Streamed at.t0 at.plan at.past) m.now was now at.course turn turn.answer turn.course ((stack.body k at.t0).abandoned at.plan at.past b was m u now at.stands l)
 
   body_refused : (k : K) (acts : List Own) (b : B) (was : Recorded) (m : Moment) (made : Result Unit NoMemory) (now : Recorded) →
       StreamedAt st At k acts b → body_abandons b was m made now → IfErr made (λ e. was.spare ≡ 0)
@@ -192,12 +192,12 @@ module _ {K H P S R F B X : Type 0} (calls : Calls S R F) (polls : Polls F (Resu
     called = λ k acts s req was m made new now asks at ready serves c. called k acts s req was m made new now asks at serves c;
     kept = stack.kept;
     polled = polled;
-    future_left = future_left;
+    future_abandoned = future_abandoned;
     future_refused = future_refused;
-    answered_left = answered_left;
+    answered_abandoned = answered_abandoned;
     answered_refused = answered_refused;
     framed = framed;
-    body_left = body_left;
+    body_abandoned = body_abandoned;
     body_refused = body_refused;
     idles = idles;
   }

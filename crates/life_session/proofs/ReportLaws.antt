@@ -49,7 +49,7 @@ own_count (x ∷ steps) i = go (x.request == i) (own_count steps i) ∙ sym (sum
     go false e = omega (arith, e)
 
 module _ (by : ℕ → ScriptView → Table) where
-  stories_count : (scripts : List ScriptView) (i : ℕ) (steps : List Step) (end : ℕ) → length (stories by scripts i steps end) ≡ length scripts
+  pub stories_count : (scripts : List ScriptView) (i : ℕ) (steps : List Step) (end : ℕ) → length (stories by scripts i steps end) ≡ length scripts
   stories_count [] i steps end = refl
   stories_count (script ∷ scripts) i steps end = ap suc (stories_count scripts (suc i) steps end)
 

@@ -18,7 +18,7 @@ use Rattle.life_script.specs.declared.scenario.Step.{Step}
 use Rattle.life_session.specs.Acts.{Counts, NotBefore, own, steps_of}
 use Rattle.life_session.specs.Exchange.{ExchangeAt, HasRoom, IsFresh, LiveAt}
 use Rattle.life_session.specs.Report.{stories}
-use Rattle.life_session.specs.Session.{IsSession, May, MovesOn, RunsOn, Serves, SessionView, Stands, Tells, acts_done, turns_left}
+use Rattle.life_session.specs.Session.{IsSession, May, MovesOn, RunsOn, Serves, SessionView, Stands, IsStoryOf, acts_done, turns_left}
 use Rattle.life_session.specs.Table.{Meaning, story_by, tables}
 use Rattle.life_session.specs.declared.exchange.Exchange.{Exchange}
 use Rattle.life_session.proofs.PlaceLaws.{set_here, set_elsewhere, set_length, zip_at, zip_length}
@@ -175,7 +175,7 @@ module _ {K N S R F B : Type 0} (m : Meaning K N S R F B) where
 
   pub told_are : (limits : N) (scripts : List ScriptView) (i : ℕ) (steps : List Step) (left : ℕ → ℕ) (end : ℕ) (exchanges : List (Exchange F B)) (told : List ToldView) → length exchanges ≡ length scripts →
       ((j : ℕ) (script : ScriptView) (e : Exchange F B) → slice_get scripts j ≡ Some script → slice_get exchanges j ≡ Some e → Stands m limits (i + j) script (own steps (i + j)) (left (i + j)) e) →
-      AllZip (Tells m end) exchanges told → told ≡ stories (tables m limits) scripts i steps end
+      AllZip (IsStoryOf m end) exchanges told → told ≡ stories (tables m limits) scripts i steps end
   told_are limits [] i steps left end [] [] n each z = refl
   told_are limits [] i steps left end (e ∷ es) told n each z = absurd (omega (arith, n))
   told_are limits (s ∷ ss) i steps left end [] told n each z = absurd (omega (arith, n))
@@ -189,7 +189,7 @@ module _ {K N S R F B : Type 0} (m : Meaning K N S R F B) where
       ap (λ (a : ToldView). a ∷ ts) first ∙ ap (λ (l : List ToldView). story_by (tables m limits i s) (own steps i) end ∷ l) rest
 
   -- after all steps each request is told by its story
-  pub session_told : (v : SessionView N S F B) → IsSession m v → (told : List ToldView) → v.done ≡ length v.scenario.steps → AllZip (Tells m v.scenario.end) v.exchanges told →
+  pub session_told : (v : SessionView N S F B) → IsSession m v → (told : List ToldView) → v.done ≡ length v.scenario.steps → AllZip (IsStoryOf m v.scenario.end) v.exchanges told →
       told ≡ stories (tables m v.limits) v.scenario.requests 0 v.scenario.steps v.scenario.end
   session_told v s told all z =
       told_are v.limits v.scenario.requests 0 v.scenario.steps (turns_left v) v.scenario.end v.exchanges told s.count

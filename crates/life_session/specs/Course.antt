@@ -6,7 +6,7 @@ use Rattle.http_body.specs.declared.frame.Kind.{Kind}
 use Rattle.http_body.specs.declared.frame.Kind.TheVariants.{Data, Trailers}
 use Rattle.http_header.specs.HeaderMap.{Entries}
 use Rattle.life_core.specs.Fields.{fields}
-use Rattle.life_core.specs.History.{BodyFollows, BodyHistory, FutureFollows, FutureHistory, Latest, Said, Waits, Gives, Fails, ServiceFollows, Where, Waiting, Answered, left_at}
+use Rattle.life_core.specs.History.{BodyFollows, BodyHistory, FutureFollows, FutureHistory, Latest, Said, Waits, Gives, Fails, ServiceFollows, Where, Waiting, Answered, abandoned_at}
 use Rattle.life_core.specs.Calls.{Calls, Frames, Abandons, Polls}
 use Rattle.life_core.specs.Moment.{Moment}
 use Rattle.life_core.specs.Recorded.{Recorded}
@@ -44,11 +44,12 @@ pub record Histories (K H P : Type 0) : Type 0 where
   pub body : K → ℕ → P → BodyHistory (List ℕ) (BodyError (List ℕ))
   pub shown : H → ℕ × Entries Shown
 
--- what is told of an answer of a body, where the body then tells this of its end
+-- what is seen of data and of trailers
 abbrev pub kind_seen : Kind (List ℕ) → Seen
 kind_seen (Data bytes) = seen.Chunk bytes
 kind_seen (Trailers map) = seen.Trailers (fields map)
 
+-- what is told of an answer of a body, where the body then tells this of its end
 abbrev pub frame_told : Poll (Option (Result (Frame (List ℕ)) (BodyError (List ℕ)))) → Bool → Answer
 frame_told Pending ended = ans.Pending
 frame_told (Ready None) ended = ans.End
@@ -63,17 +64,17 @@ module _ {K H P : Type 0} (h : Histories K H P) (k : K) where
   after_answer t0 past t (Fails error) = Over
 
   -- how far it has come with one more act
-  abbrev pub next : Course P → Own → Course P
-  next Fresh (t, act.Call) = Awaited t []
-  next Fresh (t, act.Poll) = Fresh
-  next Fresh (t, act.Drop) = Fresh
-  next (Awaited t0 past) (t, act.Call) = Awaited t0 past
-  next (Awaited t0 past) (t, act.Poll) = after_answer t0 past t ((h.future k t0).says past t)
-  next (Awaited t0 past) (t, act.Drop) = Over
-  next (Streamed t0 plan past) (t, act.Call) = Streamed t0 plan past
-  next (Streamed t0 plan past) (t, act.Poll) = Streamed t0 plan (t ∷ past)
-  next (Streamed t0 plan past) (t, act.Drop) = Over
-  next Over x = Over
+  abbrev pub after_act : Course P → Own → Course P
+  after_act Fresh (t, act.Call) = Awaited t []
+  after_act Fresh (t, act.Poll) = Fresh
+  after_act Fresh (t, act.Drop) = Fresh
+  after_act (Awaited t0 past) (t, act.Call) = Awaited t0 past
+  after_act (Awaited t0 past) (t, act.Poll) = after_answer t0 past t ((h.future k t0).says past t)
+  after_act (Awaited t0 past) (t, act.Drop) = Over
+  after_act (Streamed t0 plan past) (t, act.Call) = Streamed t0 plan past
+  after_act (Streamed t0 plan past) (t, act.Poll) = Streamed t0 plan (t ∷ past)
+  after_act (Streamed t0 plan past) (t, act.Drop) = Over
+  after_act Over x = Over
 
   -- what is told of an answer of its future
   abbrev pub told : ℕ → Said H P (List ℕ) → Answer
@@ -101,10 +102,10 @@ module _ {K H P : Type 0} (h : Histories K H P) (k : K) where
   recorded Fresh (t, act.Drop) = []
   recorded (Awaited t0 past) (t, act.Call) = []
   recorded (Awaited t0 past) (t, act.Poll) = (h.future k t0).events past t
-  recorded (Awaited t0 past) (t, act.Drop) = (h.future k t0).left past t
+  recorded (Awaited t0 past) (t, act.Drop) = (h.future k t0).abandoned past t
   recorded (Streamed t0 plan past) (t, act.Call) = []
   recorded (Streamed t0 plan past) (t, act.Poll) = (h.body k t0 plan).events past t
-  recorded (Streamed t0 plan past) (t, act.Drop) = (h.body k t0 plan).left past t
+  recorded (Streamed t0 plan past) (t, act.Drop) = (h.body k t0 plan).abandoned past t
   recorded Over x = []
 
   -- what abandoning records at the end
@@ -117,11 +118,13 @@ module _ {K H P : Type 0} (h : Histories K H P) where
   -- how far some acts bring it
   abbrev pub course_from : K → Course P → List Own → Course P
   course_from k c [] = c
-  course_from k c (x ∷ acts) = course_from k (next h k c x) acts
+  course_from k c (x ∷ acts) = course_from k (after_act h k c x) acts
 
+  -- how far its acts have brought a request
   abbrev pub course_of : K → List Own → Course P
   course_of k acts = course_from k Fresh acts
 
+  -- the table that answers and records by the course of the acts so far
   abbrev pub course_table : K → Table
   course_table k = record {
     answer = λ acts x. answered h k (course_of k acts) x;
@@ -146,8 +149,9 @@ module _ {K H P : Type 0} (h : Histories K H P) (table : K → Table) (At : K �
   pub record Turns (k : K) (acts : List Own) (c : Course P) (x : Own) : Type 0 where
     pub answer : (table k).answer acts x ≡ answered h k c x
     pub events : (table k).events acts x ≡ recorded h k c x
-    pub course : At k (acts ++ x ∷ []) (next h k c x)
+    pub course : At k (acts ++ x ∷ []) (after_act h k c x)
 
+  -- the table tells the course, from no acts on, by each act, and at the end
   pub record ShowsCourse : Type 0 where
     pub first : (k : K) → At k [] Fresh
     pub turn : (k : K) (acts : List Own) (c : Course P) (x : Own) → At k acts c → InTime c x → Turns k acts c x
@@ -164,15 +168,18 @@ pub record Standing (K H P S R F B X : Type 0) : Type 1 where
   pub body : K → ℕ → P → B → List ℕ → Type 0
 
 module _ {K H P S R F B X : Type 0} (st : Standing K H P S R F B X) (At : K → List Own → Course P → Type 0) where
+  -- the future stands where the acts have brought it, with no answer so far
   pub record AwaitedAt (k : K) (acts : List Own) (f : F) : Type 0 where
     pub t0 : ℕ
     pub past : List ℕ
     pub course : At k acts (Awaited t0 past)
     pub stands : st.future k t0 f (Waiting past)
 
+  -- the future answered
   abbrev pub AnsweredAt : K → F → Type 0
   AnsweredAt k f = (t0 : ℕ) × st.future k t0 f Answered
 
+  -- the body stands where the acts have brought it, and its last poll is not after them
   pub record StreamedAt (k : K) (acts : List Own) (b : B) : Type 0 where
     pub t0 : ℕ
     pub plan : P
@@ -181,6 +188,7 @@ module _ {K H P S R F B X : Type 0} (st : Standing K H P S R F B X) (At : K → 
     pub latest : (t : ℕ) → NotBefore t acts → Latest t past
     pub stands : st.body k t0 plan b past
 
+  -- where values stand after some acts, by how far the acts have brought the request
   abbrev pub course_places : Places K S R F B
   course_places = record {
     serves = st.serves;
@@ -203,5 +211,5 @@ module _ {K H P S R F B X : Type 0} (calls : Calls S R F) (polls : Polls F (Resu
     pub future : (k : K) (t0 : ℕ) → FutureFollows polls abandons st.heads (st.future k t0) (st.body k t0) (h.future k t0)
     pub body : (k : K) (t0 : ℕ) → BodyFollows frames body_abandons ends (st.body k t0) (h.body k t0)
     pub shown : (said : H) (head : ResponseHead X) → st.heads said head → (head.parts.status ≡ (h.shown said).0) × (fields head.parts.headers ≡ (h.shown said).1)
-    pub future_once : (k : K) (t0 : ℕ) (w : Where) (t : ℕ) → length (left_at (h.future k t0) w t) ≤ 1
-    pub body_once : (k : K) (t0 : ℕ) (plan : P) (past : List ℕ) (t : ℕ) → length ((h.body k t0 plan).left past t) ≤ 1
+    pub future_once : (k : K) (t0 : ℕ) (w : Where) (t : ℕ) → length (abandoned_at (h.future k t0).abandoned w t) ≤ 1
+    pub body_once : (k : K) (t0 : ℕ) (plan : P) (past : List ℕ) (t : ℕ) → length ((h.body k t0 plan).abandoned past t) ≤ 1

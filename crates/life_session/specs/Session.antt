@@ -29,6 +29,11 @@ pub record SessionView (N S F B : Type 0) : Type 0 where
   pub stack : S
   pub exchanges : List (Exchange F B)
 
+-- a session of these limits, scripts, steps and end, by what it holds
+abbrev pub session_of : {N S F B : Type 0} → N → List ScriptView → List Step → ℕ → ℕ → S → List (Exchange F B) → SessionView N S F B
+session_of limits scripts steps end done stack exchanges =
+    record { limits = limits; scenario = record { requests = scripts; steps = steps; end = end }; done = done; stack = stack; exchanges = exchanges }
+
 -- the acts of request i among the steps that are done
 abbrev pub acts_done : {N S F B : Type 0} → SessionView N S F B → ℕ → List Own
 acts_done v i = own (take v.done v.scenario.steps) i
@@ -50,12 +55,15 @@ pub record IsNext {N S F B : Type 0} (old new : SessionView N S F B) : Type 0 wh
   pub one_done : new.done ≡ old.done + 1
 
 module _ {K N S R F B : Type 0} (m : Meaning K N S R F B) where
+  -- what is live of it may be polled and abandoned
   abbrev pub May : Exchange F B → Type 0
   May e = MayGoOn m e.live
 
+  -- the exchange of a request, by its number and script, stands at these acts, with room for so many turns more
   abbrev pub Stands : N → ℕ → ScriptView → List Own → ℕ → Exchange F B → Type 0
   Stands limits i script acts left e = ExchangeAt m (m.key_of limits i script) acts left e
 
+  -- the stack serves that request
   abbrev pub Serves : N → ℕ → ScriptView → S → Type 0
   Serves limits i script stack = m.places.serves (m.key_of limits i script) stack
 
@@ -71,14 +79,16 @@ module _ {K N S R F B : Type 0} (m : Meaning K N S R F B) where
     pub each : (i : ℕ) (script : ScriptView) (e : Exchange F B) → slice_get v.scenario.requests i ≡ Some script → slice_get v.exchanges i ≡ Some e
         → Stands v.limits i script (acts_done v i) (turns_left v i) e
 
-  -- a step moves the exchange of its request alone, by its story; a Drop is not refused
+  -- a step, not before the acts so far, moves the exchange of its request on by one act, where the stack serves the request
   abbrev pub MovesOn : S → Step → ScriptView → Exchange F B → Exchange F B → Type 0
   MovesOn stack x script old new = (limits : N) (acts : List Own) (left : ℕ) → Stands limits x.request script acts (suc left) old
       → Serves limits x.request script stack → NotBefore x.at acts → Stands limits x.request script (acts ++ (x.at, x.act) ∷ []) left new
 
+  -- the exchange stands at some acts of some request
   abbrev pub IsAtSome : Exchange F B → Type 0
   IsAtSome e = (k : K) × (acts : List Own) × (left : ℕ) × ExchangeAt m k acts left e
 
+  -- the exchange of the step's request moves on, and the others stay; a Drop is not refused
   abbrev pub RunsOn : S → Step → List ScriptView → List (Exchange F B) → Result Unit NoMemory → List (Exchange F B) → Type 0
   RunsOn stack x scripts old (Ok u) new =
       (before : Exchange F B) × (after : Exchange F B) × (slice_get old x.request ≡ Some before) × (new ≡ slice_set old x.request after)
@@ -86,5 +96,5 @@ module _ {K N S R F B : Type 0} (m : Meaning K N S R F B) where
   RunsOn stack x scripts old (Err e) new = (before : Exchange F B) → slice_get old x.request ≡ Some before → IsAtSome before → x.act ≡ act.Drop → ⊥
 
   -- what is told of an exchange whose steps are all done is its story
-  abbrev pub Tells : ℕ → Exchange F B → ToldView → Type 0
-  Tells end e t = (k : K) (acts : List Own) (left : ℕ) → ExchangeAt m k acts left e → t ≡ story_by (m.table k) acts end
+  abbrev pub IsStoryOf : ℕ → Exchange F B → ToldView → Type 0
+  IsStoryOf end e t = (k : K) (acts : List Own) (left : ℕ) → ExchangeAt m k acts left e → t ≡ story_by (m.table k) acts end

@@ -1,5 +1,5 @@
 -- Tables over the acts of a request, and what it is to keep one.
-use Rattle.std.specs.Prelude.{◌≡◌, ℕ, List, [], ◌∷◌, ◌++◌, Bool, Option, Some, None, Result, Ok, Err, IfOk, IfErr}
+use Rattle.std.specs.Prelude.{◌≡◌, ℕ, List, [], ◌∷◌, ◌++◌, Bool, Option, Some, None, Result, Ok, Err, IfOk, IfErr, slice_get}
 use Rattle.http_body.specs.Frame.{data_frame, trailers_frame}
 use Rattle.http_body.specs.declared.frame.Frame.{Frame}
 use Rattle.http_header.specs.FieldValue.{FieldValue}
@@ -8,15 +8,18 @@ use Rattle.life_core.specs.Fields.{fields}
 use Rattle.life_core.specs.History.{Adds, Grew, NumbersStay}
 use Rattle.life_core.specs.Calls.{Polls, Abandons, Frames, Calls}
 use Rattle.life_core.specs.Moment.{Moment}
+use Rattle.life_core.specs.Poll.{IfReady}
 use Rattle.life_core.specs.Recorded.{Recorded, none_counted}
 use Rattle.life_core.specs.declared.body.BodyError.{BodyError}
 use Rattle.life_core.specs.declared.event.Event.{Event}
 use Rattle.life_core.specs.declared.message.Response.{Response}
+use Rattle.life_core.specs.declared.message.ResponseHead.{ResponseHead}
 use Rattle.life_core.specs.declared.poll.Poll.{Poll}
 use Rattle.life_core.specs.declared.poll.Poll.TheVariants.{Ready, Pending}
 use Rattle.life_core.specs.declared.recorder.NoMemory.{NoMemory}
 use Rattle.life_script.specs.Scenario.{ScriptView}
 use Rattle.life_script.specs.Told.{TurnView, ToldView}
+use Rattle.life_script.specs.Valid.{ScriptFits}
 use Rattle.life_script.specs.declared.answer.Answer.{Answer}
 use Rattle.life_script.specs.declared.answer.Answer.TheVariants as ans
 use Rattle.life_script.specs.declared.answer.Seen.{Seen}
@@ -32,6 +35,7 @@ pub record Table : Type 0 where
   pub events : List Own → Own → List Event
   pub at_end : List Own → ℕ → List Event
 
+-- the turn of an act after those before it
 abbrev pub turn_by : Table → List Own → Own → TurnView
 turn_by table before x = record { answer = table.answer before x; events = table.events before x }
 
@@ -86,10 +90,14 @@ tables m limits i script = m.table (m.key_of limits i script)
 abbrev pub IsIdleAct : Table → List Own → Own → Type 0
 IsIdleAct table acts x = (table.answer acts x ≡ ans.Idle) × (table.events acts x ≡ [])
 
--- what the answer of a future says: the response's status and headers, and whether its body tells its end
+-- what is told of a response: the status and headers of its head, and whether its body tells its end
+abbrev pub response_told : {X : Type 0} → ResponseHead X → Bool → Answer
+response_told head ended = ans.Response head.parts.status (fields head.parts.headers) ended
+
+-- what the answer of a future says
 abbrev pub PollSaid : {B X : Type 0} → (B → Bool) → Poll (Result (Response B X) (List ℕ)) → Answer → Type 0
 PollSaid ends Pending a = a ≡ ans.Pending
-PollSaid ends (Ready (Ok r)) a = a ≡ ans.Response r.head.parts.status (fields r.head.parts.headers) (ends r.body)
+PollSaid ends (Ready (Ok r)) a = a ≡ response_told r.head (ends r.body)
 PollSaid ends (Ready (Err e)) a = a ≡ ans.ServiceError e
 
 -- what the answer of a body says, where the body then tells this of its end
@@ -113,6 +121,7 @@ pub record Polled {K S R F B X : Type 0} (ends : B → Bool) (at : Places K S R 
   pub grew : Grew was now ((table k).events acts (t, act.Poll))
   pub numbers : NumbersStay was now
 
+-- the same of a poll of a body
 pub record Framed {K S R F B : Type 0} (ends : B → Bool) (at : Places K S R F B) (table : K → Table) (k : K) (acts : List Own) (t : ℕ) (was : Recorded)
     (a : Poll (Option (Result (Frame (List ℕ)) (BodyError (List ℕ))))) (new : B) (now : Recorded) : Type 0 where
   pub said : FrameSaid a (ends new) ((table k).answer acts (t, act.Poll))
@@ -152,6 +161,7 @@ module _ {K S R F B : Type 0} (at : Places K S R F B) (table : K → Table) wher
 -- each call of these relations answers and records by the table
 module _ {K S R F B X : Type 0} (calls : Calls S R F) (polls : Polls F (Result (Response B X) (List ℕ))) (abandons : Abandons F)
     (frames : Frames B (List ℕ) (BodyError (List ℕ))) (body_abandons : Abandons B) (ends : B → Bool) (at : Places K S R F B) (table : K → Table) where
+  -- a call keeps the table where its values stand, whatever request they are of
   pub record KeepsTable : Type 0 where
     pub called : (k : K) (acts : List Own) (s : S) (req : R) (was : Recorded) (m : Moment) (made : Result F NoMemory) (new : S) (now : Recorded) →
         at.asks k req → at.fresh k acts → at.ready k was → at.serves k s → calls s req was m made new now → IfOk made (λ f. CalledAt at table k acts m.now was f now)
@@ -159,18 +169,60 @@ module _ {K S R F B X : Type 0} (calls : Calls S R F) (polls : Polls F (Result (
         at.serves k s → calls s req was m made new now → at.serves k new
     pub polled : (k : K) (acts : List Own) (f : F) (was : Recorded) (m : Moment) (made : Result (Poll (Result (Response B X) (List ℕ))) NoMemory) (new : F) (now : Recorded) →
         at.waiting k acts f → polls f was m made new now → IfOk made (λ a. Polled ends at table k acts m.now was a new now)
-    pub future_left : (k : K) (acts : List Own) (f : F) (was : Recorded) (m : Moment) (made : Result Unit NoMemory) (now : Recorded) →
+    pub future_abandoned : (k : K) (acts : List Own) (f : F) (was : Recorded) (m : Moment) (made : Result Unit NoMemory) (now : Recorded) →
         at.waiting k acts f → abandons f was m made now → IfOk made (λ u. Dropped at table k acts m.now was now)
     pub future_refused : (k : K) (acts : List Own) (f : F) (was : Recorded) (m : Moment) (made : Result Unit NoMemory) (now : Recorded) →
         at.waiting k acts f → abandons f was m made now → IfErr made (λ e. was.spare ≡ 0)
-    pub answered_left : (k : K) (acts : List Own) (f : F) (was : Recorded) (m : Moment) (made : Result Unit NoMemory) (now : Recorded) →
+    pub answered_abandoned : (k : K) (acts : List Own) (f : F) (was : Recorded) (m : Moment) (made : Result Unit NoMemory) (now : Recorded) →
         at.answered k acts f → abandons f was m made now → IfOk made (λ u. Adds was now [])
     pub answered_refused : (k : K) (acts : List Own) (f : F) (was : Recorded) (m : Moment) (made : Result Unit NoMemory) (now : Recorded) →
         at.answered k acts f → abandons f was m made now → IfErr made (λ e. ⊥)
     pub framed : (k : K) (acts : List Own) (b : B) (was : Recorded) (m : Moment) (made : Result (Poll (Option (Result (Frame (List ℕ)) (BodyError (List ℕ))))) NoMemory) (new : B) (now : Recorded) →
         NotBefore m.now acts → at.streaming k acts b → frames b was m made new now → IfOk made (λ a. Framed ends at table k acts m.now was a new now)
-    pub body_left : (k : K) (acts : List Own) (b : B) (was : Recorded) (m : Moment) (made : Result Unit NoMemory) (now : Recorded) →
+    pub body_abandoned : (k : K) (acts : List Own) (b : B) (was : Recorded) (m : Moment) (made : Result Unit NoMemory) (now : Recorded) →
         at.streaming k acts b → body_abandons b was m made now → IfOk made (λ u. Dropped at table k acts m.now was now)
     pub body_refused : (k : K) (acts : List Own) (b : B) (was : Recorded) (m : Moment) (made : Result Unit NoMemory) (now : Recorded) →
         at.streaming k acts b → body_abandons b was m made now → IfErr made (λ e. was.spare ≡ 0)
     pub idles : Idles at table
+
+-- WHAT A CALL SHOWS of the table, whatever request its values are of and at whatever acts they stand: was is what was
+-- recorded before it, made is its result, and now is what is recorded after it.
+
+-- this holds of the response that a poll answered, if it answered one
+abbrev pub IfResponse : {B X : Type 0} → Result (Poll (Result (Response B X) (List ℕ))) NoMemory → (Response B X → Type 0) → Type 0
+IfResponse made P = IfOk made (λ a. IfReady a (λ answer. IfOk answer P))
+
+module _ {K N S R F B : Type 0} (m : Meaning K N S R F B) where
+  -- a stack that is made serves each of these scripts by its number, where its headers fit
+  abbrev pub ServesEach : N → List ScriptView → Result S NoMemory → Type 0
+  ServesEach limits scripts made = (script : ScriptView) (i : ℕ) → slice_get scripts i ≡ Some script → ScriptFits script
+      → IfOk made (m.places.serves (m.key_of limits i script))
+
+  -- each request that the stack served it still serves
+  abbrev pub KeepsServing : S → S → Type 0
+  KeepsServing old new = (k : K) → m.places.serves k old → m.places.serves k new
+
+  -- a first call of a request that the stack serves is told and records by the table, and its future waits
+  abbrev pub CallKeepsTable : S → R → ℕ → Recorded → Result F NoMemory → Recorded → Type 0
+  CallKeepsTable stack req t was made now = (k : K) (acts : List Own) → m.places.asks k req → m.places.fresh k acts → m.places.ready k was → m.places.serves k stack
+      → IfOk made (λ f. CalledAt m.places m.table k acts t was f now)
+
+  -- a poll of a future that waits answers and records by the table, and what is live then stands at one act more
+  abbrev pub PollKeepsTable : {X : Type 0} → F → ℕ → Recorded → Result (Poll (Result (Response B X) (List ℕ))) NoMemory → F → Recorded → Type 0
+  PollKeepsTable old t was made new now = (k : K) (acts : List Own) → m.places.waiting k acts old
+      → IfOk made (λ a. Polled m.ends m.places m.table k acts t was a new now)
+
+  -- abandoning a future that waits records by the table
+  abbrev pub AbandonKeepsTable : F → ℕ → Recorded → Result Unit NoMemory → Recorded → Type 0
+  AbandonKeepsTable future t was made now = (k : K) (acts : List Own) → m.places.waiting k acts future
+      → IfOk made (λ u. Dropped m.places m.table k acts t was now)
+
+  -- a poll of a body, not before its acts, answers and records by the table, and the body then stands at one act more
+  abbrev pub FrameKeepsTable : B → ℕ → Recorded → Result (Poll (Option (Result (Frame (List ℕ)) (BodyError (List ℕ))))) NoMemory → B → Recorded → Type 0
+  FrameKeepsTable old t was made new now = (k : K) (acts : List Own) → NotBefore t acts → m.places.streaming k acts old
+      → IfOk made (λ a. Framed m.ends m.places m.table k acts t was a new now)
+
+  -- abandoning a body records by the table
+  abbrev pub BodyAbandonKeepsTable : B → ℕ → Recorded → Result Unit NoMemory → Recorded → Type 0
+  BodyAbandonKeepsTable body t was made now = (k : K) (acts : List Own) → m.places.streaming k acts body
+      → IfOk made (λ u. Dropped m.places m.table k acts t was now)

@@ -1,8 +1,10 @@
 //! What a session keeps of one request, over any stack that keeps a table.
-ghost use Rattle.std.specs.Prelude.{◌≡◌, ℕ, ◌≤◌, ◌∷◌, ◌++◌, List, [], suc, IfOk, IsOk};
-ghost use Rattle.life_session.specs.Acts.{NotBefore, Own};
-ghost use Rattle.life_session.specs.Exchange.{Ended, ExchangeAt, HasRoom, IsFresh, IsIdle, LiveAt, MayGoOn, Shown};
-ghost use Rattle.life_session.specs.Table.{story_by};
+ghost use Rattle.std.specs.Prelude.{◌≡◌, ℕ, ◌≤◌, List, IfOk, IsOk};
+ghost use Rattle.life_script.specs.Valid.{ScriptFits};
+ghost use Rattle.life_session.specs.Acts.{Own};
+ghost use Rattle.life_session.specs.Exchange.{AbandonIsDone, ActOfServed, DropIsDone, EndShown, ExchangeAt, HasRoom, IsFresh, IsIdle, MayGoOn, TurnOfServed, recorded_in};
+ghost use Rattle.life_session.specs.Session.{IsStoryOf};
+ghost use Rattle.life_session.specs.Table.{KeepsServing};
 
 pub mod exchanges;
 pub mod live;
@@ -13,11 +15,15 @@ use crate::table::Driven;
 use life_core::{Cx, Got, Log, NoMemory, Recorder};
 use life_script::{Act, Answer, Script, Step, Told, Turn, Turns};
 use std::alloc::Global;
+use std::mem;
 
 /// What is live of a request, the log of its current step, and its turns so far.
 pub struct Exchange<F, B> {
+    /// What is live of it.
     pub live: Live<F, B>,
+    /// Empty between the steps, with room for the record of the early drop of what is live.
     pub log: Log,
+    /// Its turns so far, with room for those to come.
     pub turns: Turns,
 }
 
@@ -34,17 +40,6 @@ pub fn begin_exchange<F, B>(alloc: Global, steps: u64) -> Got<Exchange<F, B>>
     })
 }
 
-/// An exchange that holds nothing. It takes no memory.
-pub fn idle_exchange<F, B>(alloc: Global) -> Exchange<F, B>
-    ensures { result.live ≡ Live.Over }
-{
-    Exchange {
-        live: Live::Over,
-        log: Log::new(alloc),
-        turns: Turns::new(alloc),
-    }
-}
-
 /// One act at its time.
 fn act_at<S: Driven>(
     stack: &mut S::Stack,
@@ -56,13 +51,15 @@ fn act_at<S: Driven>(
 ) -> Got<(Live<S::Future, S::Body>, Answer)>
     requires may { MayGoOn S.meaning live }
     requires may_stack { S.meaning.may stack.old }
+    requires fits { ScriptFits script.now }
     ensures may { IfOk result (λ p. MayGoOn S.meaning p.0) }
     ensures may_stack { S.meaning.may stack.new }
-    ensures kept { (k : S.Key) → S.meaning.places.serves k stack.old → S.meaning.places.serves k stack.new }
-    ensures dropped { (k : S.Key) (acts : List Own) → LiveAt S.meaning k acts live → step.act ≡ Act.Drop → HasRoom live log.old.spare → IsOk result }
+    ensures kept { KeepsServing S.meaning stack.old stack.new }
+    ensures dropped { DropIsDone S.meaning live step.act log.old.spare result }
     ensures idle { step.act ≡ Act.Drop → IfOk result (λ p. IsIdle p.0) }
-    ensures shown { (limits : S.Limits) (acts : List Own) → LiveAt S.meaning (S.meaning.key_of limits step.request script.now) acts live → S.meaning.places.serves (S.meaning.key_of limits step.request script.now) stack.old → S.meaning.places.ready (S.meaning.key_of limits step.request script.now) (⟦<Log as Recorder>⟧.recorded log.old) → NotBefore step.at acts
-        → IfOk result (λ p. Shown S.meaning (S.meaning.key_of limits step.request script.now) acts (step.at, step.act) (⟦<Log as Recorder>⟧.recorded log.old) p (⟦<Log as Recorder>⟧.recorded log.new)) }
+    ensures shown { (limits : S.Limits) (acts : List Own)
+        → ActOfServed S.meaning (S.meaning.key_of limits step.request script.now) acts stack.old
+        live (step.at, step.act) (recorded_in log.old) result (recorded_in log.new) }
 {
     let span = None;
     let mut cx = Cx {
@@ -82,9 +79,8 @@ fn finish_at<S: Driven>(
     log: &mut Log,
 ) -> Got<()>
     requires { MayGoOn S.meaning live }
-    ensures done { (k : S.Key) (acts : List Own) → LiveAt S.meaning k acts live → HasRoom live log.old.spare → IsOk result }
-    ensures shown { (k : S.Key) (acts : List Own) → LiveAt S.meaning k acts live
-        → IfOk result (λ done. Ended S.meaning k acts at (⟦<Log as Recorder>⟧.recorded log.old) (⟦<Log as Recorder>⟧.recorded log.new)) }
+    ensures done { AbandonIsDone S.meaning live log.old.spare result }
+    ensures shown { EndShown S.meaning live at (recorded_in log.old) result (recorded_in log.new) }
 {
     let span = None;
     let mut cx = Cx {
@@ -122,47 +118,66 @@ pub fn abandon_at<S: Driven>(exchange: Exchange<S::Future, S::Body>, at: u64, al
     let _ = finish_at::<S>(live, at, alloc, &mut log);
 }
 
-/// Runs a step of this request. Where it is refused for memory, what was live was abandoned; a Drop is not
-/// refused.
+/// Puts what is live where nothing is.
+fn settle<F, B>(place: &mut Live<F, B>, live: Live<F, B>)
+    requires { place.old ≡ Live.Over }
+    ensures { place.new ≡ live }
+{
+    match mem::replace(place, live) {
+        Live::Over => (),
+        _ => unreachable!(),
+    }
+}
+
+/// Runs a step of this request; no header list of its script holds over 1,000 values. Where it is refused for
+/// memory, what was live was abandoned; a Drop is not refused.
 pub fn take_turn<S: Driven>(
     stack: &mut S::Stack,
     script: &Script,
-    exchange: Exchange<S::Future, S::Body>,
+    exchange: &mut Exchange<S::Future, S::Body>,
     step: Step,
     alloc: Global,
-) -> Got<Exchange<S::Future, S::Body>>
-    requires may { MayGoOn S.meaning exchange.live }
+) -> Got<()>
+    requires may { MayGoOn S.meaning exchange.old.live }
     requires may_stack { S.meaning.may stack.old }
-    requires room { 1 ≤ exchange.turns.spare }
-    ensures may { IfOk result (λ e. MayGoOn S.meaning e.live) }
+    requires fits { ScriptFits script.now }
+    requires room { 1 ≤ exchange.old.turns.spare }
+    ensures may { MayGoOn S.meaning exchange.new.live }
     ensures may_stack { S.meaning.may stack.new }
-    ensures kept { (k : S.Key) → S.meaning.places.serves k stack.old → S.meaning.places.serves k stack.new }
-    ensures dropped { (k : S.Key) (acts : List Own) (left : ℕ) → ExchangeAt S.meaning k acts left exchange → step.act ≡ Act.Drop → IsOk result }
-    ensures ran { (limits : S.Limits) (acts : List Own) (left : ℕ) → ExchangeAt S.meaning (S.meaning.key_of limits step.request script.now) acts (suc left) exchange
-        → S.meaning.places.serves (S.meaning.key_of limits step.request script.now) stack.old → S.meaning.places.ready (S.meaning.key_of limits step.request script.now) (⟦<Log as Recorder>⟧.recorded exchange.log) → NotBefore step.at acts
-        → IfOk result (ExchangeAt S.meaning (S.meaning.key_of limits step.request script.now) (acts ++ (step.at, step.act) ∷ []) left) }
+    ensures kept { KeepsServing S.meaning stack.old stack.new }
+    ensures dropped { (k : S.Key) (acts : List Own) (left : ℕ)
+        → ExchangeAt S.meaning k acts left exchange.old → step.act ≡ Act.Drop → IsOk result }
+    ensures ran { (limits : S.Limits) (acts : List Own) (left : ℕ)
+        → TurnOfServed S.meaning (S.meaning.key_of limits step.request script.now) acts left
+        stack.old (step.at, step.act) exchange.old result exchange.new }
 {
-    let Exchange {
-        live,
-        mut log,
-        mut turns,
-    } = exchange;
-    let (live, answer) = act_at::<S>(stack, script, step, live, alloc, &mut log)?;
-    let events = log.take();
-    turns.put_back(Turn { answer, events });
-    match make_room(&live, &mut log) {
-        Ok(()) => Ok(Exchange { live, log, turns }),
+    let live = mem::replace(&mut exchange.live, Live::Over);
+    let (live, answer) = match act_at::<S>(stack, script, step, live, alloc, &mut exchange.log) {
+        Ok(acted) => acted,
+        Err(no_memory) => return Err(no_memory),
+    };
+    let events = exchange.log.take();
+    exchange.turns.put_back(Turn { answer, events });
+    match make_room(&live, &mut exchange.log) {
+        Ok(()) => {
+            settle(&mut exchange.live, live);
+            Ok(())
+        }
         Err(no_memory) => {
-            let _ = finish_at::<S>(live, step.at, alloc, &mut log);
+            let _ = finish_at::<S>(live, step.at, alloc, &mut exchange.log);
             Err(no_memory)
         }
     }
 }
 
 /// What is told of a request whose steps all were run, where the end is at a time. It takes no memory.
-pub fn tell<S: Driven>(exchange: Exchange<S::Future, S::Body>, end: u64, alloc: Global) -> Told
+pub fn finish_exchange<S: Driven>(
+    exchange: Exchange<S::Future, S::Body>,
+    end: u64,
+    alloc: Global,
+) -> Told
     requires { MayGoOn S.meaning exchange.live }
-    ensures { (k : S.Key) (acts : List Own) (left : ℕ) → ExchangeAt S.meaning k acts left exchange → result ≡ story_by (S.meaning.table k) acts end }
+    ensures { IsStoryOf S.meaning end exchange result }
 {
     let Exchange {
         live,

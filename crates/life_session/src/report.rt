@@ -1,9 +1,10 @@
 //! The report of a session, and its text.
-ghost use Rattle.std.specs.Prelude.{◌≡◌, ◌<◌, [], ◌++◌, length, slice_get, Some, IsSome, IfOk, OnOk};
+ghost use Rattle.std.specs.Prelude.{◌≡◌, ◌<◌, [], ◌++◌, codes, length, slice_get, Some, IsSome, IfOk, OnOk};
+ghost use Rattle.life_script.specs.Texts.{act_text, answer_text};
 ghost use Rattle.life_session.specs.Report.{Fits, event_lines, turn_of, turn_lines, steps_lines, end_lines, ends_lines, total_line, report_text};
 
 use life_core::{Event, Got, Octets};
-use life_script::{Step, Steps, TextBuilder, Told, ToldList, Turn};
+use life_script::{Act, Answer, Step, Steps, TextBuilder, Told, ToldList, Turn};
 use std::alloc::Global;
 use std::marker::Model;
 
@@ -67,33 +68,58 @@ impl Report {
 }
 
 /// Puts events, each in a line of its own. What is put stands behind what the text held, here as below.
-fn put_events(alloc: Global, text: &mut TextBuilder, events: &[Event]) -> Got<()>
+fn put_events(text: &mut TextBuilder, events: &[Event]) -> Got<()>
     ensures { OnOk result (text.new ≡ text.old ++ event_lines events.now) }
 {
     for event in events {
         text.text("  ")?;
-        text.event(alloc, event)?;
+        text.event(event)?;
         text.text("\n")?;
     }
     Ok(())
 }
 
+/// An act as it stands in the line of a step, which is put at once.
+fn act_piece(act: Act) -> &'static str
+    ensures { result.now ≡ codes " " ++ act_text act ++ codes ": " }
+{
+    match act {
+        Act::Call => " call: ",
+        Act::Poll => " poll: ",
+        Act::Drop => " drop: ",
+    }
+}
+
+/// Puts an answer and the end of its line, at once where the answer is a word.
+fn put_answer(text: &mut TextBuilder, answer: &Answer) -> Got<()>
+    ensures { OnOk result (text.new ≡ text.old ++ answer_text answer.now ++ codes "\n") }
+{
+    match answer {
+        Answer::Called => text.text("called\n"),
+        Answer::Idle => text.text("idle\n"),
+        Answer::Pending => text.text("pending\n"),
+        Answer::End => text.text("end\n"),
+        Answer::Dropped => text.text("dropped\n"),
+        _ => {
+            text.answer(answer)?;
+            text.text("\n")
+        }
+    }
+}
+
 /// Puts the line of a step, and those of its events.
-fn put_turn(alloc: Global, text: &mut TextBuilder, k: u64, step: &Step, turn: &Turn) -> Got<()>
+fn put_turn(text: &mut TextBuilder, k: u64, step: &Step, turn: &Turn) -> Got<()>
     ensures { OnOk result (text.new ≡ text.old ++ turn_lines k step.now turn.now) }
 {
     text.text("step ")?;
-    text.number(alloc, k)?;
+    text.number(k)?;
     text.text(" at ")?;
-    text.number(alloc, step.at)?;
+    text.number(step.at)?;
     text.text(" request ")?;
-    text.number(alloc, step.request)?;
-    text.text(" ")?;
-    text.act(step.act)?;
-    text.text(": ")?;
-    text.answer(alloc, &turn.answer)?;
-    text.text("\n")?;
-    put_events(alloc, text, turn.events.as_slice())
+    text.number(step.request)?;
+    text.text(act_piece(step.act))?;
+    put_answer(text, &turn.answer)?;
+    put_events(text, turn.events.as_slice())
 }
 
 /// The turn of a number of the request of a number.
@@ -117,42 +143,47 @@ fn put_steps(alloc: Global, text: &mut TextBuilder, told: &[Told], steps: &[Step
         let i = step.request as usize;
         let n = made[i];
         made[i] = n + 1;
-        put_turn(alloc, text, k as u64, step, turn_at(told, i, n))?;
+        put_turn(text, k as u64, step, turn_at(told, i, n))?;
     }
     Ok(())
 }
 
 /// Puts the lines of what was recorded where a request was dropped, or nothing where nothing was.
-fn put_end(alloc: Global, text: &mut TextBuilder, end: u64, i: u64, told: &Told) -> Got<()>
+fn put_end(text: &mut TextBuilder, end: u64, i: u64, told: &Told) -> Got<()>
     ensures { OnOk result (text.new ≡ text.old ++ end_lines end i told.now.at_end) }
 {
     if told.at_end.is_empty() {
         return Ok(());
     }
     text.text("end at ")?;
-    text.number(alloc, end)?;
+    text.number(end)?;
     text.text(" request ")?;
-    text.number(alloc, i)?;
+    text.number(i)?;
     text.text("\n")?;
-    put_events(alloc, text, told.at_end.as_slice())
+    put_events(text, told.at_end.as_slice())
 }
 
 /// Puts the lines of what was recorded where each request was dropped.
-fn put_ends(alloc: Global, text: &mut TextBuilder, end: u64, told: &[Told]) -> Got<()>
+fn put_ends(text: &mut TextBuilder, end: u64, told: &[Told]) -> Got<()>
     ensures { OnOk result (text.new ≡ text.old ++ ends_lines end 0 told.now) }
 {
     for (i, told) in told.iter().enumerate() {
-        put_end(alloc, text, end, i as u64, told)?;
+        put_end(text, end, i as u64, told)?;
     }
     Ok(())
 }
 
 /// Puts the line of the totals.
-fn put_total(alloc: Global, text: &mut TextBuilder, requests: u64, steps: u64, end: u64) -> Got<()>
+fn put_total(text: &mut TextBuilder, requests: u64, steps: u64, end: u64) -> Got<()>
     ensures { OnOk result (text.new ≡ text.old ++ total_line requests steps end) }
 {
-    let total = format!(in alloc; "total: {requests} requests, {steps} steps, end {end}\n")?;
-    text.text(total.as_str())
+    text.text("total: ")?;
+    text.number(requests)?;
+    text.text(" requests, ")?;
+    text.number(steps)?;
+    text.text(" steps, end ")?;
+    text.number(end)?;
+    text.text("\n")
 }
 
 /// The text of a report: the lines of its steps, of its ends and of its totals.
@@ -164,7 +195,7 @@ pub fn report_text(alloc: Global, report: &Report) -> Got<Octets>
     let end = report.end();
     let mut text = TextBuilder::new(alloc);
     put_steps(alloc, &mut text, told, steps)?;
-    put_ends(alloc, &mut text, end, told)?;
-    put_total(alloc, &mut text, told.len() as u64, steps.len() as u64, end)?;
+    put_ends(&mut text, end, told)?;
+    put_total(&mut text, told.len() as u64, steps.len() as u64, end)?;
     Ok(text.finish())
 }

@@ -9,7 +9,7 @@ ghost use Rattle.life_session.specs.Table.{tables};
 
 use crate::acts::count_steps;
 use crate::exchange::Exchange;
-use crate::exchange::exchanges::{abandon_all, begin_all, run_step, tell_all};
+use crate::exchange::exchanges::{abandon_all, begin_all, finish_exchanges, run_step};
 use crate::report::Report;
 use crate::table::Driven;
 use life_core::{Got, NoMemory, Twin};
@@ -21,12 +21,13 @@ use std::rc::Rc;
 /// A scenario whose first steps were run. What is live of each request stands where its own steps so far have
 /// brought it, whatever the others did.
 pub struct Session<D: Driven> {
-    limits: D::Limits,
+    /// Boxed, as the stack is, so that a session is small where it is moved.
+    limits: Box<D::Limits>,
     scripts: Rc<Scripts>,
     steps: Steps,
     end: u64,
     done: u64,
-    stack: D::Stack,
+    stack: Box<D::Stack>,
     exchanges: Vec<Exchange<D::Future, D::Body>>,
     /// Empty, with room for what is told of each request.
     told: ToldList,
@@ -35,14 +36,17 @@ pub struct Session<D: Driven> {
 
 impl<D: Driven> Model for Session<D> {
     ghost use Rattle.std.specs.Prelude.{◌≡◌, ◌≤◌, [], length};
-    ghost use Rattle.life_session.specs.Session.{IsSession, SessionView};
+    ghost use Rattle.life_session.specs.Session.{IsSession, SessionView, session_of};
 
     ghost Value = { SessionView D.Limits D.Stack D.Future D.Body };
 
-    ghost view = { λ s. record { limits = s.limits; scenario = record { requests = s.scripts.value.items; steps = s.steps.items; end = s.end }; done = s.done; stack = s.stack; exchanges = s.exchanges.items } };
+    ghost view = { λ s.
+        session_of s.limits.value s.scripts.value.items s.steps.items s.end s.done s.stack.value
+        s.exchanges.items };
 
-    ghost invariant = { λ s.
-        IsSession D.meaning (record { limits = s.limits; scenario = record { requests = s.scripts.value.items; steps = s.steps.items; end = s.end }; done = s.done; stack = s.stack; exchanges = s.exchanges.items })
+    ghost invariant = { λ s. IsSession D.meaning
+        (session_of s.limits.value s.scripts.value.items s.steps.items s.end s.done s.stack.value
+        s.exchanges.items)
         × (s.told.items ≡ []) × (length s.exchanges.items ≤ s.told.spare) };
 }
 
@@ -53,6 +57,16 @@ pub fn share(alloc: Global, scripts: &Scripts) -> Got<Rc<Scripts>>
     let scripts = scripts.twin_items(alloc)?;
     match Rc::new(alloc, scripts) {
         Ok(shared) => Ok(shared),
+        Err(_) => Err(NoMemory),
+    }
+}
+
+/// A value in a box.
+fn boxed<T: Drop>(alloc: Global, value: T) -> Got<Box<T>>
+    ensures { IfOk result (λ b. b.value ≡ value) }
+{
+    match Box::new(alloc, value) {
+        Ok(boxed) => Ok(boxed),
         Err(_) => Err(NoMemory),
     }
 }
@@ -73,8 +87,8 @@ fn begin_valid<D: Driven>(alloc: Global, limits: &D::Limits, scenario: &Scenario
     let steps = scenario.steps.twin_items(alloc)?;
     let mut told = ToldList::new(alloc);
     told.reserve(requests)?;
-    let own_limits = limits.twin(alloc)?;
-    let stack = D::stack_over(alloc, limits, shared)?;
+    let own_limits = boxed(alloc, limits.twin(alloc)?)?;
+    let stack = boxed(alloc, D::stack_over(alloc, limits, shared)?)?;
     let exchanges = begin_all::<D>(alloc, counts.as_slice())?;
     Ok(Session {
         limits: own_limits,
@@ -104,10 +118,7 @@ impl<D: Driven> Session<D> {
         ensures complete { IsValid scenario.now → IfErr result (λ e. e ≡ OutOfMemory) }
     {
         check(scenario)?;
-        match begin_valid::<D>(alloc, limits, scenario) {
-            Ok(session) => Ok(session),
-            Err(_) => Err(DriveError::NoMemory),
-        }
+        Ok(begin_valid::<D>(alloc, limits, scenario)?)
     }
 
     /// Whether all steps were run.
@@ -118,12 +129,13 @@ impl<D: Driven> Session<D> {
         self.done == self.steps.len()
     }
 
-    /// Runs the next step. The one error is want of memory, and then all that was live was abandoned; a Drop is
-    /// not refused and takes no memory.
+    /// Runs the next step. After an error all that was live was abandoned; a Drop is not refused and takes no
+    /// memory.
     pub fn step(self) -> Got<Session<D>>
         requires { self.done < length self.scenario.steps }
         ensures next { IfOk result (IsNext self) }
-        ensures dropped { (x : StepView) → slice_get self.scenario.steps self.done ≡ Some x → x.act ≡ Act.Drop → IsOk result }
+        ensures dropped { (x : StepView) → slice_get self.scenario.steps self.done ≡ Some x
+            → x.act ≡ Act.Drop → IsOk result }
     {
         let Session {
             limits,
@@ -137,7 +149,7 @@ impl<D: Driven> Session<D> {
             alloc,
         } = self;
         let step = steps.as_slice()[done as usize];
-        match run_step::<D>(&mut stack, scripts.as_slice(), &mut exchanges, step, alloc) {
+        match run_step::<D>(&mut *stack, scripts.as_slice(), &mut exchanges, step, alloc) {
             Ok(()) => Ok(Session {
                 limits,
                 scripts,
@@ -173,7 +185,7 @@ impl<D: Driven> Session<D> {
             told,
             alloc,
         } = self;
-        let told = tell_all::<D>(exchanges, end, told, alloc);
+        let told = finish_exchanges::<D>(exchanges, end, told, alloc);
         Report { told, steps, end }
     }
 }
@@ -194,10 +206,7 @@ pub fn drive<D: Driven>(
 {
     let mut session = Session::<D>::begin(alloc, limits, scenario)?;
     while !session.done() {
-        session = match session.step() {
-            Ok(session) => session,
-            Err(_) => return Err(DriveError::NoMemory),
-        };
+        session = session.step()?;
     }
     Ok(session.finish())
 }

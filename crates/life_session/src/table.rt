@@ -1,12 +1,11 @@
 //! What it is to keep a table.
-ghost use Rattle.std.specs.Prelude.{◌≡◌, ℕ, List, [], Bool, IfOk, IfErr, slice_get, Some};
+ghost use Rattle.std.specs.Prelude.{◌≡◌, ℕ, List, [], IfOk, IfErr};
 ghost use Rattle.life_core.specs.History.{Adds};
 ghost use Rattle.life_core.specs.Moment.{SameContext};
-ghost use Rattle.life_core.specs.Poll.{IfReady, OnPending};
-ghost use Rattle.life_script.specs.Scenario.{ScriptView};
-ghost use Rattle.life_script.specs.Valid.{ScriptFits};
-ghost use Rattle.life_session.specs.Acts.{NotBefore, Own};
-ghost use Rattle.life_session.specs.Table.{CalledAt, Dropped, Framed, Idles, Meaning, Polled};
+ghost use Rattle.life_core.specs.Poll.{OnPending};
+ghost use Rattle.life_script.specs.Valid.{EachFits, ScriptFits};
+ghost use Rattle.life_session.specs.Acts.{Own};
+ghost use Rattle.life_session.specs.Table.{AbandonKeepsTable, BodyAbandonKeepsTable, CallKeepsTable, FrameKeepsTable, Idles, IfResponse, KeepsServing, Meaning, PollKeepsTable, ServesEach};
 
 use bytes::Bytes;
 use http_body::Frame;
@@ -21,14 +20,19 @@ pub trait Driven {
     /// How the stack is set.
     type Limits: Twin + Drop;
 
+    /// Its service, which each request is handed to.
     type Stack: Drop;
 
+    /// What it is called with.
     type Request;
 
+    /// What a call gives.
     type Future;
 
+    /// The body of a response.
     type Body;
 
+    /// What a response carries beside its status, headers and body.
     type Ext: Drop;
 
     /// What the table of a request is told by.
@@ -37,14 +41,18 @@ pub trait Driven {
     /// What it says of itself: its table, where its values stand, and when they may be called.
     ghost meaning: { Meaning Key Self.Limits Self.Stack Self.Request Self.Future Self.Body };
 
-    /// The stack with these limits over a service of these scripts.
+    /// The stack with these limits over a service of these scripts, of which no header list holds over 1,000
+    /// values.
     fn stack_over(alloc: Global, limits: &Self::Limits, scripts: Rc<Scripts>) -> Got<Self::Stack>
-        ensures serves { (script : ScriptView) (i : ℕ) → slice_get scripts.value.items i ≡ Some script → ScriptFits script → IfOk result (meaning.places.serves (meaning.key_of limits.now i script)) }
+        requires { EachFits scripts.value.items }
+        ensures serves { ServesEach meaning limits.now scripts.value.items result }
         ensures may { IfOk result meaning.may };
 
-    /// The request of a script and its number.
+    /// The request of a script and its number. No header list of the script holds over 1,000 values.
     fn request_of(alloc: Global, script: &Script, number: u64) -> Got<Self::Request>
-        ensures { (limits : Self.Limits) → IfOk result (meaning.places.asks (meaning.key_of limits number script.now)) };
+        requires { ScriptFits script.now }
+        ensures { (limits : Self.Limits)
+            → IfOk result (meaning.places.asks (meaning.key_of limits number script.now)) };
 
     /// Calls it with a request that was not called before.
     fn call_at<L: Recorder>(
@@ -53,9 +61,9 @@ pub trait Driven {
         cx: &mut Cx<'_, L>,
     ) -> Got<Self::Future>
         requires may { meaning.may stack.old }
-        ensures called { (k : Key) (acts : List Own) → meaning.places.asks k req → meaning.places.fresh k acts → meaning.places.ready k (L.recorded cx.old.rec.now) → meaning.places.serves k stack.old
-            → IfOk result (λ f. CalledAt meaning.places meaning.table k acts cx.old.now (L.recorded cx.old.rec.now) f (L.recorded cx.new.rec.now)) }
-        ensures kept { (k : Key) → meaning.places.serves k stack.old → meaning.places.serves k stack.new }
+        ensures called { CallKeepsTable meaning stack.old req cx.old.now
+            (L.recorded cx.old.rec.now) result (L.recorded cx.new.rec.now) }
+        ensures kept { KeepsServing meaning stack.old stack.new }
         ensures may { meaning.may stack.new }
         ensures live { IfOk result meaning.future_live }
         ensures future_may { IfOk result meaning.future_may }
@@ -68,20 +76,24 @@ pub trait Driven {
     ) -> Got<Poll<Result<Response<Self::Body, Self::Ext>, Text>>>
         requires live { meaning.future_live future.old }
         requires may { meaning.future_may future.old }
-        ensures polled { (k : Key) (acts : List Own) → meaning.places.waiting k acts future.old
-            → IfOk result (λ a. Polled meaning.ends meaning.places meaning.table k acts cx.old.now (L.recorded cx.old.rec.now) a future.new (L.recorded cx.new.rec.now)) }
+        ensures polled { PollKeepsTable meaning future.old cx.old.now
+            (L.recorded cx.old.rec.now) result future.new (L.recorded cx.new.rec.now) }
         ensures live { IfOk result (λ answer. OnPending answer (meaning.future_live future.new)) }
-        ensures body { IfOk result (λ answer. IfReady answer (λ answer. IfOk answer (λ response. meaning.body_may response.body))) }
+        ensures body { IfResponse result (λ response. meaning.body_may response.body) }
         ensures may { meaning.future_may future.new }
         ensures context { SameContext L.place cx.old cx.new };
 
     /// Abandons a future.
     fn abandon_future<L: Recorder>(future: Self::Future, cx: &mut Cx<'_, L>) -> Got<()>
         requires { meaning.future_may future }
-        ensures waiting { (k : Key) (acts : List Own) → meaning.places.waiting k acts future → IfOk result (λ _. Dropped meaning.places meaning.table k acts cx.old.now (L.recorded cx.old.rec.now) (L.recorded cx.new.rec.now)) }
-        ensures answered { (k : Key) (acts : List Own) → meaning.places.answered k acts future → IfOk result (λ _. Adds (L.recorded cx.old.rec.now) (L.recorded cx.new.rec.now) []) }
-        ensures refused { (k : Key) (acts : List Own) → meaning.places.waiting k acts future → IfErr result (λ _. (L.recorded cx.old.rec.now).spare ≡ 0) }
-        ensures answered_refused { (k : Key) (acts : List Own) → meaning.places.answered k acts future → IfErr result (λ _. ⊥) }
+        ensures waiting { AbandonKeepsTable meaning future cx.old.now
+            (L.recorded cx.old.rec.now) result (L.recorded cx.new.rec.now) }
+        ensures answered { (k : Key) (acts : List Own) → meaning.places.answered k acts future
+            → IfOk result (λ _. Adds (L.recorded cx.old.rec.now) (L.recorded cx.new.rec.now) []) }
+        ensures refused { (k : Key) (acts : List Own) → meaning.places.waiting k acts future
+            → IfErr result (λ _. (L.recorded cx.old.rec.now).spare ≡ 0) }
+        ensures answered_refused { (k : Key) (acts : List Own)
+            → meaning.places.answered k acts future → IfErr result (λ _. ⊥) }
         ensures context { SameContext L.place cx.old cx.new };
 
     /// Polls a body, at a time that is not before its acts.
@@ -90,8 +102,8 @@ pub trait Driven {
         cx: &mut Cx<'_, L>,
     ) -> Got<Poll<Option<Result<Frame<Bytes>, BodyError<Text>>>>>
         requires { meaning.body_may body.old }
-        ensures framed { (k : Key) (acts : List Own) → NotBefore cx.old.now acts → meaning.places.streaming k acts body.old
-            → IfOk result (λ a. Framed meaning.ends meaning.places meaning.table k acts cx.old.now (L.recorded cx.old.rec.now) a body.new (L.recorded cx.new.rec.now)) }
+        ensures framed { FrameKeepsTable meaning body.old cx.old.now
+            (L.recorded cx.old.rec.now) result body.new (L.recorded cx.new.rec.now) }
         ensures may { meaning.body_may body.new }
         ensures context { SameContext L.place cx.old cx.new };
 
@@ -102,8 +114,10 @@ pub trait Driven {
     /// Abandons a body.
     fn abandon_body<L: Recorder>(body: Self::Body, cx: &mut Cx<'_, L>) -> Got<()>
         requires { meaning.body_may body }
-        ensures left { (k : Key) (acts : List Own) → meaning.places.streaming k acts body → IfOk result (λ _. Dropped meaning.places meaning.table k acts cx.old.now (L.recorded cx.old.rec.now) (L.recorded cx.new.rec.now)) }
-        ensures refused { (k : Key) (acts : List Own) → meaning.places.streaming k acts body → IfErr result (λ _. (L.recorded cx.old.rec.now).spare ≡ 0) }
+        ensures abandoned { BodyAbandonKeepsTable meaning body cx.old.now
+            (L.recorded cx.old.rec.now) result (L.recorded cx.new.rec.now) }
+        ensures refused { (k : Key) (acts : List Own) → meaning.places.streaming k acts body
+            → IfErr result (λ _. (L.recorded cx.old.rec.now).spare ≡ 0) }
         ensures context { SameContext L.place cx.old cx.new };
 
     /// Does nothing; says of which acts nothing is told.

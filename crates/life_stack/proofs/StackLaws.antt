@@ -1,4 +1,5 @@
 pub mod DrivenFollows
 pub mod Keeping
 pub mod Naming
+pub mod Refusing
 pub mod Steps

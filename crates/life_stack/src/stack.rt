@@ -2,17 +2,16 @@
 ghost use Rattle.std.specs.Prelude.{◌≡◌, ◌<◌, ℕ, List, [], Some, length, slice_get, IfOk, IfErr};
 ghost use Rattle.life_core.specs.History.{Adds};
 ghost use Rattle.life_core.specs.Moment.{SameContext};
-ghost use Rattle.life_core.specs.Poll.{IfReady, OnPending};
+ghost use Rattle.life_core.specs.Poll.{OnPending};
 ghost use Rattle.life_script.specs.Scenario.{ScriptView};
-ghost use Rattle.life_stack.specs.Stack.Driven.{BodyMay, FutureLive, FutureMay, StackMay, StackStands, drive_ends};
-ghost use Rattle.life_session.specs.Acts.{NotBefore, Own};
-ghost use Rattle.life_session.specs.Table.{CalledAt, Dropped, Framed, Polled};
+ghost use Rattle.life_stack.specs.Stack.Driven.{BodyMay, FutureLive, FutureMay, StackMay, StackStands};
+ghost use Rattle.life_session.specs.Acts.{Own};
+ghost use Rattle.life_session.specs.Table.{AbandonKeepsTable, BodyAbandonKeepsTable, CallKeepsTable, FrameKeepsTable, IfResponse, KeepsServing, PollKeepsTable, ServesEach};
 ghost use Rattle.life_stack.specs.Stack.Course.{Key};
-ghost use Rattle.life_stack.specs.Stack.Keeping.{drive_places, drive_table};
+ghost use Rattle.life_stack.specs.Stack.Keeping.{drive_meaning, drive_places};
 ghost use Rattle.life_stack.specs.Service.Script.{IsRequestOf};
-ghost use Rattle.life_stack.specs.Table.Request.{Numbered, numbered};
-ghost use Rattle.life_script.specs.Valid.{IsValid, ScriptFits};
-ghost use Rattle.life_script.specs.declared.scenario.Limits.{Limits as LimitsView};
+ghost use Rattle.life_stack.specs.Table.Request.{numbered};
+ghost use Rattle.life_script.specs.Valid.{EachFits, IsValid, ScriptFits};
 
 pub mod driving;
 pub mod keeping;
@@ -66,7 +65,8 @@ pub type DriveBody = OnEarlyDropBody<
 
 /// The stack with these limits over a service of these scripts.
 pub(crate) fn stack_over(alloc: Global, limits: &Limits, scripts: Rc<Scripts>) -> Got<DriveStack>
-    ensures stands { (script : ScriptView) (i : ℕ) → slice_get scripts.value.items i ≡ Some script → ScriptFits script → IfOk result (StackStands limits.now (numbered i script)) }
+    requires { EachFits scripts.value.items }
+    ensures stands { ServesEach drive_meaning limits.now scripts.value.items result }
     ensures may { IfOk result StackMay }
 {
     let gate_name = limits.gate_name.twin(alloc)?;
@@ -88,23 +88,22 @@ pub(crate) fn stack_over(alloc: Global, limits: &Limits, scripts: Rc<Scripts>) -
 /// number.
 pub fn drive_stack(alloc: Global, limits: &Limits, scenario: &Scenario) -> Got<DriveStack>
     requires { IsValid scenario.now }
-    ensures stands { (script : ScriptView) (i : ℕ) → slice_get scenario.now.requests i ≡ Some script → IfOk result (StackStands limits.now (numbered i script)) }
+    ensures stands { (script : ScriptView) (i : ℕ) → slice_get scenario.now.requests i ≡ Some script
+        → IfOk result (StackStands limits.now (numbered i script)) }
     ensures may { IfOk result StackMay }
 {
     let scripts = share(alloc, &scenario.requests)?;
-    match stack_over(alloc, limits, scripts) {
-        Ok(stack) => Ok(stack),
-        Err(no_memory) => Err(no_memory),
-    }
+    stack_over(alloc, limits, scripts)
 }
 
 /// The request of a script and its number: GET `/` in HTTP/1.1, with the script's headers in order and its
-/// body.
+/// body. No header list of the script holds over 1,000 values.
 pub fn request_of(alloc: Global, script: &Script, number: u64) -> Got<Request<ScriptBody, Ext>>
+    requires { ScriptFits script.now }
     ensures { IfOk result (IsRequestOf script.now number) }
 {
     let headers = script.headers.to_map(alloc)?;
-    let body = script.body.twin_items(alloc)?;
+    let body = script.body.clone()?;
     let ext = Ext {
         number: Some(Number(number)),
         id: None,
@@ -119,7 +118,8 @@ pub fn request_of(alloc: Global, script: &Script, number: u64) -> Got<Request<Sc
 pub fn script_request(alloc: Global, scenario: &Scenario, i: u64) -> Got<Request<ScriptBody, Ext>>
     requires valid { IsValid scenario.now }
     requires within { i < length scenario.now.requests }
-    ensures { (script : ScriptView) → slice_get scenario.now.requests i ≡ Some script → IfOk result (IsRequestOf script i) }
+    ensures { (script : ScriptView) → slice_get scenario.now.requests i ≡ Some script
+        → IfOk result (IsRequestOf script i) }
 {
     request_of(alloc, &scenario.requests.as_slice()[i as usize], i)
 }
@@ -132,9 +132,9 @@ pub fn call_stack<L: Recorder>(
     cx: &mut Cx<'_, L>,
 ) -> Got<DriveFuture<L>>
     requires { StackMay stack.old }
-    ensures called { (k : Key) (acts : List Own) → drive_places.asks k request → drive_places.fresh k acts → drive_places.serves k stack.old
-        → IfOk result (λ f. CalledAt drive_places drive_table k acts cx.old.now (L.recorded cx.old.rec.now) f (L.recorded cx.new.rec.now)) }
-    ensures kept { (k : Key) → drive_places.serves k stack.old → drive_places.serves k stack.new }
+    ensures called { CallKeepsTable drive_meaning stack.old request cx.old.now
+        (L.recorded cx.old.rec.now) result (L.recorded cx.new.rec.now) }
+    ensures kept { KeepsServing drive_meaning stack.old stack.new }
     ensures may { StackMay stack.new }
     ensures live { IfOk result FutureLive }
     ensures future_may { IfOk result FutureMay }
@@ -153,10 +153,10 @@ pub fn poll_future<L: Recorder>(
 ) -> Got<Poll<Result<Response<DriveBody, Ext>, Text>>>
     requires live { FutureLive future.old }
     requires may { FutureMay future.old }
-    ensures polled { (k : Key) (acts : List Own) → drive_places.waiting k acts future.old
-        → IfOk result (λ answer. Polled drive_ends drive_places drive_table k acts cx.old.now (L.recorded cx.old.rec.now) answer future.new (L.recorded cx.new.rec.now)) }
+    ensures polled { PollKeepsTable drive_meaning future.old cx.old.now
+        (L.recorded cx.old.rec.now) result future.new (L.recorded cx.new.rec.now) }
     ensures live { IfOk result (λ answer. OnPending answer (FutureLive future.new)) }
-    ensures body { IfOk result (λ answer. IfReady answer (λ answer. IfOk answer (λ response. BodyMay response.body))) }
+    ensures body { IfResponse result (λ response. BodyMay response.body) }
     ensures may { FutureMay future.new }
     ensures context { SameContext L.place cx.old cx.new }
 {
@@ -166,16 +166,17 @@ pub fn poll_future<L: Recorder>(
 }
 
 /// Abandons a future: its early drop is recorded where it waits, as the table tells, and nothing where it
-/// answered. The one error is want of memory, which comes only where it waits and the recorder had no room.
+/// answered. An error comes only where the recorder had no room, wherever the future stands, and never once it
+/// has answered.
 pub fn abandon_future<L: Recorder>(future: DriveFuture<L>, cx: &mut Cx<'_, L>) -> Got<()>
     requires { FutureMay future }
-    ensures waiting { (k : Key) (acts : List Own) → drive_places.waiting k acts future
-        → IfOk result (λ done. Dropped drive_places drive_table k acts cx.old.now (L.recorded cx.old.rec.now) (L.recorded cx.new.rec.now)) }
+    ensures waiting { AbandonKeepsTable drive_meaning future cx.old.now
+        (L.recorded cx.old.rec.now) result (L.recorded cx.new.rec.now) }
     ensures answered { (k : Key) (acts : List Own) → drive_places.answered k acts future
         → IfOk result (λ done. Adds (L.recorded cx.old.rec.now) (L.recorded cx.new.rec.now) []) }
-    ensures refused { (k : Key) (acts : List Own) → drive_places.waiting k acts future
-        → IfErr result (λ error. (L.recorded cx.old.rec.now).spare ≡ 0) }
-    ensures answered_refused { (k : Key) (acts : List Own) → drive_places.answered k acts future → IfErr result (λ error. ⊥) }
+    ensures refused { IfErr result (λ error. (L.recorded cx.old.rec.now).spare ≡ 0) }
+    ensures answered_refused { (k : Key) (acts : List Own) → drive_places.answered k acts future
+        → IfErr result (λ error. ⊥) }
     ensures context { SameContext L.place cx.old cx.new }
 {
     // Names a type inside of the stack's body, which the proof of this call has to see.
@@ -190,22 +191,21 @@ pub fn poll_body<L: Recorder>(
     cx: &mut Cx<'_, L>,
 ) -> Got<Poll<Option<Result<Frame<Bytes>, BodyError<Text>>>>>
     requires { BodyMay body.old }
-    ensures polled { (k : Key) (acts : List Own) → NotBefore cx.old.now acts → drive_places.streaming k acts body.old
-        → IfOk result (λ answer. Framed drive_ends drive_places drive_table k acts cx.old.now (L.recorded cx.old.rec.now) answer body.new (L.recorded cx.new.rec.now)) }
+    ensures polled { FrameKeepsTable drive_meaning body.old cx.old.now
+        (L.recorded cx.old.rec.now) result body.new (L.recorded cx.new.rec.now) }
     ensures may { BodyMay body.new }
     ensures context { SameContext L.place cx.old cx.new }
 {
     body.poll_frame(cx)
 }
 
-/// Abandons a body: its early drop is recorded as the table tells, where no ending answer came. The one error
-/// is want of memory, which comes only where the recorder had no room.
+/// Abandons a body: its early drop is recorded as the table tells, where no ending answer came. An error comes
+/// only where the recorder had no room, wherever the body stands.
 pub fn abandon_body<L: Recorder>(body: DriveBody, cx: &mut Cx<'_, L>) -> Got<()>
     requires { BodyMay body }
-    ensures left { (k : Key) (acts : List Own) → drive_places.streaming k acts body
-        → IfOk result (λ done. Dropped drive_places drive_table k acts cx.old.now (L.recorded cx.old.rec.now) (L.recorded cx.new.rec.now)) }
-    ensures refused { (k : Key) (acts : List Own) → drive_places.streaming k acts body
-        → IfErr result (λ error. (L.recorded cx.old.rec.now).spare ≡ 0) }
+    ensures abandoned { BodyAbandonKeepsTable drive_meaning body cx.old.now
+        (L.recorded cx.old.rec.now) result (L.recorded cx.new.rec.now) }
+    ensures refused { IfErr result (λ error. (L.recorded cx.old.rec.now).spare ≡ 0) }
     ensures context { SameContext L.place cx.old cx.new }
 {
     body.abandon(cx)

@@ -7,6 +7,7 @@ use life_script::{
 };
 use std::alloc::AllocGlobal;
 use std::process::Abort;
+use std::rc::Rc;
 
 /// Header fields of this many values.
 fn many(rt: &(impl Abort + AllocGlobal), count: u64) -> HeaderList {
@@ -45,7 +46,7 @@ fn answering(rt: &(impl Abort + AllocGlobal), counts: (u64, u64)) -> PollItems {
     let reply = Reply {
         status: StatusCode::OK,
         headers: many(rt, counts.0),
-        body: body(rt, counts.1),
+        body: Rc::new(rt.alloc(), body(rt, counts.1)).expect(rt, "memory"),
         tells: true,
     };
     let mut polls = pending(rt);
@@ -62,9 +63,9 @@ fn put_script(
 ) {
     let script = Script {
         headers: many(rt, counts.0),
-        body: body(rt, counts.1),
+        body: Rc::new(rt.alloc(), body(rt, counts.1)).expect(rt, "memory"),
         call: CallItem::Serve,
-        polls,
+        polls: Rc::new(rt.alloc(), polls).expect(rt, "memory"),
     };
     requests.push(script).expect(rt, "memory");
 }

@@ -8,6 +8,7 @@ use life_script::{
 };
 use std::alloc::AllocGlobal;
 use std::process::Abort;
+use std::rc::Rc;
 
 /// Header fields with one value.
 fn headers(rt: &(impl Abort + AllocGlobal)) -> HeaderList {
@@ -38,7 +39,7 @@ fn reply(rt: &(impl Abort + AllocGlobal)) -> Reply {
     Reply {
         status: StatusCode::OK,
         headers: headers(rt),
-        body: body(rt),
+        body: Rc::new(rt.alloc(), body(rt)).expect(rt, "memory"),
         tells: true,
     }
 }
@@ -66,9 +67,9 @@ fn polls(rt: &(impl Abort + AllocGlobal)) -> PollItems {
 fn script(rt: &(impl Abort + AllocGlobal)) -> Script {
     Script {
         headers: headers(rt),
-        body: body(rt),
+        body: Rc::new(rt.alloc(), body(rt)).expect(rt, "memory"),
         call: CallItem::Panic(PanicText::Known(text(rt, "oh"))),
-        polls: polls(rt),
+        polls: Rc::new(rt.alloc(), polls(rt)).expect(rt, "memory"),
     }
 }
 

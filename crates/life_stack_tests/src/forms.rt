@@ -5,7 +5,7 @@ use http::{HeaderName, HeaderValue, StatusCode};
 use life_core::{
     BodyError, DropKind, Event, Fields, Handed, Latency, LatencyUnit, Level, PanicText, Text,
 };
-use life_script::{Answer, HeaderList, Seen, answer_text, event_text};
+use life_script::{Answer, HeaderList, MAX_HEADER_VALUES, Seen, answer_text, event_text};
 use std::alloc::AllocGlobal;
 use std::process::Abort;
 
@@ -39,6 +39,7 @@ fn fields(rt: &(impl Abort + AllocGlobal), pairs: &[(&str, &str)]) -> Fields {
     for &(name, value) in pairs {
         put(rt, &mut headers, name, value);
     }
+    assert!(*rt; headers.len() <= MAX_HEADER_VALUES);
     let map = headers.to_map(rt.alloc()).expect(rt, "memory");
     Fields::of(rt.alloc(), &map).expect(rt, "memory")
 }

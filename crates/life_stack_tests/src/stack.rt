@@ -5,10 +5,9 @@ use crate::asserting::number_is;
 use crate::fixtures::read;
 use life_core::{Cx, Log, Poll, Request, Response, Twin};
 use life_script::{Limits, Scenario, check};
-use life_session::share;
 use life_stack::{
-    DriveBody, DriveStack, Ext, ScriptBody, ScriptService, abandon_body, abandon_future,
-    call_stack, drive_stack, poll_body, poll_future, script_request,
+    DriveBody, DriveStack, Ext, ScriptBody, abandon_body, abandon_future, call_stack, drive_stack,
+    poll_body, poll_future, script_request,
 };
 use std::alloc::AllocGlobal;
 use std::process::Abort;
@@ -97,11 +96,10 @@ fn call_by_call(rt: HostRuntime) {
 }
 
 #[test]
-fn twin_of_the_service(rt: HostRuntime) {
-    let (_, scenario) = read(&rt, READY);
-    let scripts = share(rt.alloc(), &scenario.requests).expect(&rt, "memory");
-    let service = ScriptService::new(scripts);
-    let twin = service.twin(rt.alloc()).expect(&rt, "memory");
-    drop(service);
+fn twin_of_the_stack(rt: HostRuntime) {
+    let (limits, scenario) = read(&rt, READY);
+    let stack = stack_of(&rt, &limits, &scenario);
+    let twin = stack.twin(rt.alloc()).expect(&rt, "memory");
+    drop(stack);
     drop(twin);
 }

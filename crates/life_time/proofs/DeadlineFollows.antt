@@ -1,5 +1,5 @@
 -- `ResponseBodyDeadline` passes its future's answers on; its body answers by its timer first.
-use Rattle.std.proofs.Common.{◌≡◌, ℕ, List, [], ◌∷◌, Bool, true, false, Option, Some, None, Ok, Err, Result, refl, ap, ◌∙◌, subst}
+use Rattle.std.proofs.Common.{◌≡◌, ℕ, List, [], ◌∷◌, Bool, true, false, Option, Some, None, Ok, Err, Result, refl, ap, ◌∙◌}
 use Rattle.http_body.specs.declared.frame.Frame.{Frame}
 use Rattle.life_core.specs.Timer.{due}
 use Rattle.life_core.specs.Calls.{Polls, Abandons, Frames, Calls, WrapsFaults}
@@ -13,15 +13,16 @@ use Rattle.life_core.specs.declared.body.BodyError.TheVariants.{Elapsed, LengthL
 use Rattle.life_core.specs.declared.poll.Poll.{Poll}
 use Rattle.life_core.specs.declared.poll.Poll.TheVariants.{Ready, Pending}
 use Rattle.life_core.specs.declared.clock.Timer.{Timer}
-use Rattle.life_core.specs.History.{Latest, Adds, BodyHistory, BodyFollows, FrameSteps, FutureHistory, FutureFollows, PollSteps, Said, Waits, Gives, Fails, Where, Waiting, Answered, Matches, left_at, said_under, ServiceFollows}
+use Rattle.life_core.specs.History.{Latest, Adds, BodyHistory, BodyFollows, FrameSteps, FutureHistory, FutureFollows, PollSteps, Said, Waits, Gives, Fails, Where, Waiting, Answered, IsSaid, said_under, ServiceFollows}
 use Rattle.life_core.proofs.Growth.{adds_none}
-use Rattle.life_core.proofs.Due.{undue_before}
+use Rattle.life_core.proofs.Timers.{undue_before}
 use Rattle.life_time.specs.declared.timeout.deadline_body.DeadlineBody.{DeadlineBody}
 use Rattle.life_time.specs.declared.timeout.deadline_service.ResponseBodyDeadlineFuture.{ResponseBodyDeadlineFuture}
-use Rattle.life_time.specs.DeadlineBody.{DeadlineFrames, ElapsedFrames, InTimeFrames, DeadlineBodyAbandons, deadline_ends}
-use Rattle.life_time.specs.DeadlineService.{DeadlineCalls, DeadlinePolls, DeadlineAbandons}
+use Rattle.life_time.specs.DeadlineBody.{DeadlineFrames, ElapsedFrames, InTimeFrames}
+use Rattle.life_time.specs.DeadlineService.{DeadlineCalls, DeadlinePolls}
 use Rattle.life_time.specs.History.{DeadlineStands, DeadlineServes, deadline_history, DeadlineBodyStands, deadline_body_history, undue, wrapped}
 
+-- where the polls came in order and none is due now, none of them was
 pub undue_all : (start len q : ℕ) (past : List ℕ) → Latest q past → due start len q ≡ false → undue start len past ≡ past
 undue_all start len q [] l e = refl
 undue_all start len q (p ∷ past) l e = rw (undue_before start len p q l.0 e) (ap (λ ps. p ∷ ps) (undue_all start len q past l.1 e))
@@ -36,17 +37,17 @@ module _ {H P F B X E : Type 0} (polls : Polls F (Result (Response B X) E)) (aba
   said t s = said_under (λ head p. (t, p)) s
 
   gave : (t : ℕ) (s : Said H P E) (r : Response (DeadlineBody B) X) → r.body.timer ≡ record { start = t; length = len } →
-      Matches Heads BodyStands s (Ready (Ok (record { head = r.head; body = r.body.body }))) → Matches Heads BS (said t s) (Ready (Ok r))
+      IsSaid Heads BodyStands s (Ready (Ok (record { head = r.head; body = r.body.body }))) → IsSaid Heads BS (said t s) (Ready (Ok r))
   gave t Waits r e m = elim m [ ]
   gave t (Gives head p) r e m = (m.0, record { timer_is = e; inner = m.1 })
   gave t (Fails x) r e m = elim m [ ]
 
-  failed : (t : ℕ) (s : Said H P E) (x : E) → Matches Heads BodyStands s (Ready (Err x)) → Matches Heads BS (said t s) (Ready (Err x))
+  failed : (t : ℕ) (s : Said H P E) (x : E) → IsSaid Heads BodyStands s (Ready (Err x)) → IsSaid Heads BS (said t s) (Ready (Err x))
   failed t Waits x m = elim m [ ]
   failed t (Gives head p) x m = elim m [ ]
   failed t (Fails y) x m = m
 
-  waited : (t : ℕ) (s : Said H P E) → Matches Heads BodyStands s Pending → Matches Heads BS (said t s) Pending
+  waited : (t : ℕ) (s : Said H P E) → IsSaid Heads BodyStands s Pending → IsSaid Heads BS (said t s) Pending
   waited t Waits m = tt
   waited t (Gives head p) m = elim m [ ]
   waited t (Fails y) m = elim m [ ]
@@ -72,15 +73,11 @@ module _ {H P F B X E : Type 0} (polls : Polls F (Result (Response B X) E)) (aba
     stands = kept (Waiting (m.now ∷ past)) f new s.timeout_is d.same i.stands;
   }
 
-  same_left : (w : Where) (t : ℕ) → left_at (deadline_history h) w t ≡ left_at h w t
-  same_left (Waiting past) t = refl
-  same_left Answered t = refl
-
-  pub deadline_follows : FutureFollows (DeadlinePolls polls) (DeadlineAbandons abandons) Heads (DeadlineStands len Stands) BS (deadline_history h)
+  pub deadline_follows : FutureFollows (DeadlinePolls polls) (λ f. abandons f.inner) Heads (DeadlineStands len Stands) BS (deadline_history h)
   deadline_follows = record {
     poll = step;
-    left = λ w f was m u now s d. rw (same_left w m.now) (inner.left w f.inner was m u now s.inner d);
-    refused = λ w f was m e now s d. rw (same_left w m.now) (inner.refused w f.inner was m e now s.inner d);
+    abandoned = λ w f was m u now s d. inner.abandoned w f.inner was m u now s.inner d;
+    refused = λ w f was m e now s d. inner.refused w f.inner was m e now s.inner d;
   }
 
 module _ {P B D E : Type 0} (frames : Frames B D E) (abandons : Abandons B) (ends : B → Bool)
@@ -97,35 +94,34 @@ module _ {P B D E : Type 0} (frames : Frames B D E) (abandons : Abandons B) (end
     stands = record { timer_is = ap (λ x. x.timer) d.same ∙ s.timer_is; inner = rw e (rw d.same s.inner) };
   }
 
-  polled : (p : P) (past : List ℕ) (b : B) (was : Recorded) (m : Moment) (a : Poll (Option (Result (Frame D) (BodyError E)))) (new : B) (now : Recorded) → Latest m.now past →
+  polled : (p : P) (past : List ℕ) (b : B) (was : Recorded) (m : Moment) (a : Poll (Option (Result (Frame D) (BodyError E)))) (new : B) (now : Recorded) →
       Stands p b past → WrapsFaults frames b was m (Ok a) new now → (a ≡ wrapped ((h p).frame past m.now)) × Adds was now ((h p).events past m.now) × Stands p new (m.now ∷ past)
-  polled p past b was m Pending new now l s f = let i = inner.frame p past b was m _ new now l s f in (ap wrapped i.answer, i.adds, i.stands)
-  polled p past b was m (Ready None) new now l s f = let i = inner.frame p past b was m _ new now l s f in (ap wrapped i.answer, i.adds, i.stands)
-  polled p past b was m (Ready (Some (Ok x))) new now l s f = let i = inner.frame p past b was m _ new now l s f in (ap wrapped i.answer, i.adds, i.stands)
-  polled p past b was m (Ready (Some (Err Elapsed))) new now l s f = elim f [ ]
-  polled p past b was m (Ready (Some (Err LengthLimit))) new now l s f = elim f [ ]
-  polled p past b was m (Ready (Some (Err (Inner e)))) new now l s f = let i = inner.frame p past b was m _ new now l s f in (ap wrapped i.answer, i.adds, i.stands)
+  polled p past b was m Pending new now s f = let i = inner.frame p past b was m _ new now s f in (ap wrapped i.answer, i.adds, i.stands)
+  polled p past b was m (Ready None) new now s f = let i = inner.frame p past b was m _ new now s f in (ap wrapped i.answer, i.adds, i.stands)
+  polled p past b was m (Ready (Some (Ok x))) new now s f = let i = inner.frame p past b was m _ new now s f in (ap wrapped i.answer, i.adds, i.stands)
+  polled p past b was m (Ready (Some (Err Elapsed))) new now s f = elim f [ ]
+  polled p past b was m (Ready (Some (Err LengthLimit))) new now s f = elim f [ ]
+  polled p past b was m (Ready (Some (Err (Inner e)))) new now s f = let i = inner.frame p past b was m _ new now s f in (ap wrapped i.answer, i.adds, i.stands)
 
   in_time : (p : ℕ × P) (past : List ℕ) (b : DeadlineBody B) (was : Recorded) (m : Moment) (a : Poll (Option (Result (Frame D) (BodyError E)))) (new : DeadlineBody B) (now : Recorded) →
-      Latest m.now past → due p.0 len m.now ≡ false → Here p b past → InTimeFrames frames b was m (Ok a) new now → FrameSteps Here (deadline_body_history len h p) p past was m.now a new now
-  in_time p past b was m a new now l e s d =
-      let same = undue_all p.0 len m.now past l e in
-      let i = polled p.1 past b.body was m a new.body now l (subst (λ ps. Stands p.1 b.body ps) same s.inner) d.inner in record {
+      due p.0 len m.now ≡ false → Here p b past → InTimeFrames frames b was m (Ok a) new now → FrameSteps Here (deadline_body_history len h p) p past was m.now a new now
+  in_time p past b was m a new now e s d =
+      let i = polled p.1 (undue p.0 len past) b.body was m a new.body now s.inner d.inner in record {
         answer = rw e i.0;
         adds = rw e i.1;
-        stands = record { timer_is = ap (λ x. x.timer) d.same ∙ s.timer_is; inner = rw (e, same) i.2 };
+        stands = record { timer_is = ap (λ x. x.timer) d.same ∙ s.timer_is; inner = rw e i.2 };
       }
 
   by_test : (x : Bool) (p : ℕ × P) (past : List ℕ) (b : DeadlineBody B) (was : Recorded) (m : Moment) (a : Poll (Option (Result (Frame D) (BodyError E)))) (new : DeadlineBody B) (now : Recorded) →
-      Latest m.now past → due p.0 len m.now ≡ x → Here p b past → DeadlineFrames frames b was m (Ok a) new now → FrameSteps Here (deadline_body_history len h p) p past was m.now a new now
-  by_test true p past b was m a new now l e s d = on_due p past b was m a new now e s (d.on_due (ap (λ (x : Timer). due x.start x.length m.now) s.timer_is ∙ e))
-  by_test false p past b was m a new now l e s d = in_time p past b was m a new now l e s (d.in_time (ap (λ (x : Timer). due x.start x.length m.now) s.timer_is ∙ e))
+      due p.0 len m.now ≡ x → Here p b past → DeadlineFrames frames b was m (Ok a) new now → FrameSteps Here (deadline_body_history len h p) p past was m.now a new now
+  by_test true p past b was m a new now e s d = on_due p past b was m a new now e s (d.on_due (ap (λ (x : Timer). due x.start x.length m.now) s.timer_is ∙ e))
+  by_test false p past b was m a new now e s d = in_time p past b was m a new now e s (d.in_time (ap (λ (x : Timer). due x.start x.length m.now) s.timer_is ∙ e))
 
-  pub deadline_body_follows : BodyFollows (DeadlineFrames frames) (DeadlineBodyAbandons abandons) (deadline_ends ends) Here (deadline_body_history len h)
+  pub deadline_body_follows : BodyFollows (DeadlineFrames frames) (λ b. abandons b.body) (λ b. ends b.body) Here (deadline_body_history len h)
   deadline_body_follows = record {
     tells = λ p b past s. inner.tells p.1 b.body (undue p.0 len past) s.inner;
-    frame = λ p past b was m a new now l s d. by_test (due p.0 len m.now) p past b was m a new now l refl s d;
-    left = λ p past b was m u now s d. inner.left p.1 (undue p.0 len past) b.body was m u now s.inner d;
+    frame = λ p past b was m a new now s d. by_test (due p.0 len m.now) p past b was m a new now refl s d;
+    abandoned = λ p past b was m u now s d. inner.abandoned p.1 (undue p.0 len past) b.body was m u now s.inner d;
     refused = λ p past b was m e now s d. inner.refused p.1 (undue p.0 len past) b.body was m e now s.inner d;
   }
 

@@ -1,2 +1,3 @@
 pub mod DeadlineFollows
 pub mod TimeoutFollows
+pub mod Elapsing

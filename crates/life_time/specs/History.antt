@@ -30,10 +30,11 @@ pub record TimeoutStands {F : Type 0} (timer : Timer) (status : ℕ) (Stands : F
 abbrev pub timeout_history : {H P X : Type 0} → Timer → H → P → FutureHistory H P X → FutureHistory H P X
 timeout_history timer late p h = record {
   says = λ past t. if due timer.start timer.length t then Gives late p else h.says past t;
-  events = λ past t. if due timer.start timer.length t then h.left past t else h.events past t;
-  left = h.left;
+  events = λ past t. if due timer.start timer.length t then h.abandoned past t else h.events past t;
+  abandoned = h.abandoned;
 }
 
+-- a `Timeout` with this time and status, over a service that serves
 pub record TimeoutServes {S : Type 0} (timeout status : ℕ) (Serves : S → Type 0) (s : Timeout S) : Type 0 where
   pub timeout_is : s.timeout ≡ timeout
   pub status_is : s.status_code ≡ status
@@ -46,8 +47,9 @@ pub record DeadlineStands {F : Type 0} (timeout : ℕ) (Stands : F → Where →
 
 -- the inner answers; the plan of a body keeps the time of its response
 abbrev pub deadline_history : {H P X : Type 0} → FutureHistory H P X → FutureHistory H (ℕ × P) X
-deadline_history h = record { says = λ past t. said_under (λ head p. (t, p)) (h.says past t); events = h.events; left = h.left }
+deadline_history h = record { says = λ past t. said_under (λ head p. (t, p)) (h.says past t); events = h.events; abandoned = h.abandoned }
 
+-- a `ResponseBodyDeadline` with this time, over a service that serves
 pub record DeadlineServes {S : Type 0} (timeout : ℕ) (Serves : S → Type 0) (s : ResponseBodyDeadline S) : Type 0 where
   pub timeout_is : s.timeout ≡ timeout
   pub inner : Serves s.inner
@@ -69,10 +71,11 @@ wrapped (Ready None) = Ready None
 wrapped (Ready (Some (Ok f))) = Ready (Some (Ok f))
 wrapped (Ready (Some (Err e))) = Ready (Some (Err (Inner e)))
 
+-- a fault where the timer is due, and nothing is recorded then; else the inner body answers, as after the polls that were in time
 abbrev pub deadline_body_history : {P D E : Type 0} → ℕ → (P → BodyHistory D E) → ℕ × P → BodyHistory D (BodyError E)
 deadline_body_history timeout h p = record {
-  frame = λ past q. if due p.0 timeout q then Ready (Some (Err Elapsed)) else wrapped ((h p.1).frame past q);
-  events = λ past q. if due p.0 timeout q then [] else (h p.1).events past q;
+  frame = λ past q. if due p.0 timeout q then Ready (Some (Err Elapsed)) else wrapped ((h p.1).frame (undue p.0 timeout past) q);
+  events = λ past q. if due p.0 timeout q then [] else (h p.1).events (undue p.0 timeout past) q;
   ends = λ past. (h p.1).ends (undue p.0 timeout past);
-  left = λ past q. (h p.1).left (undue p.0 timeout past) q;
+  abandoned = λ past q. (h p.1).abandoned (undue p.0 timeout past) q;
 }

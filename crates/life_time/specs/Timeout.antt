@@ -1,7 +1,9 @@
 -- What `Timeout` does: its timer first, then the inner future.
-use Rattle.std.specs.Prelude.{◌≡◌, ℕ, true, false, Some, None, Result, Ok, Err, IfOk, IfSome, IsSomeAnd}
+use Rattle.std.specs.Prelude.{◌≡◌, ℕ, true, false, Some, None, Result, Ok, Err, IfOk}
+use Rattle.std.specs.Borrow.{Lends, MutBor, Fml}
+use denote.RattleType.{RattleType}
 use Rattle.life_core.specs.Timer.{due}
-use Rattle.life_core.specs.Calls.{Forwards, Polls, Abandons, Readies, Calls, spent, AbandonsIfAny, PollsWithin}
+use Rattle.life_core.specs.Calls.{CallsOver, Polls, Abandons, Calls, spent, AbandonsIfAny, PollsWithin}
 use Rattle.life_core.specs.Message.{IsBare}
 use Rattle.life_core.specs.Moment.{Moment}
 use Rattle.life_core.specs.Recorded.{Recorded}
@@ -11,24 +13,11 @@ use Rattle.life_core.specs.declared.poll.Poll.TheVariants.{Ready, Pending}
 use Rattle.life_core.specs.declared.recorder.NoMemory.{NoMemory}
 use Rattle.life_time.specs.declared.timeout.service.Timeout.{Timeout}
 use Rattle.life_time.specs.declared.timeout.service.ResponseFuture.{ResponseFuture}
+use Rattle.life_time.specs.contracts.timeout.service.Timeout.{the_row as timeout_row}
 
-abbrev pub IsTimeout : {S : Type 0} → ℕ → ℕ → S → Timeout S → Type 0
-IsTimeout status timeout inner made = made ≡ record { inner = inner; timeout = timeout; status_code = status }
-
-abbrev pub timeout_inner : {S : Type 0} → Timeout S → S
-timeout_inner s = s.inner
-
-abbrev pub TimeoutMay : {S : Type 0} → (S → Type 0) → Timeout S → Type 0
-TimeoutMay may s = may s.inner
-
-abbrev pub TimeoutFutureMay : {F : Type 0} → (F → Type 0) → ResponseFuture F → Type 0
-TimeoutFutureMay may f = IfSome f.inner may
-
-abbrev pub TimeoutFutureLive : {F : Type 0} → (F → Type 0) → ResponseFuture F → Type 0
-TimeoutFutureLive live f = IsSomeAnd f.inner live
-
-abbrev pub TimeoutReadies : {S E : Type 0} → Readies S E → Readies (Timeout S) E
-TimeoutReadies = Forwards timeout_inner (λ s inner. record s { inner = inner })
+-- once the borrow r ends, the service has the inner one that was left
+abbrev pub LendsTimeoutInner : (S : RattleType) → MutBor (Timeout S.Denot) → MutBor S.Denot → Fml
+LendsTimeoutInner S s r = Lends (timeout_row S) S s r (λ w. record s.now { inner = w })
 
 -- the future holds an inner one, a timer that started now, and the layer's parts
 pub record IsStarted {S F : Type 0} (s : Timeout S) (m : Moment) (inner : F) (f : ResponseFuture F) : Type 0 where
@@ -38,17 +27,10 @@ pub record IsStarted {S F : Type 0} (s : Timeout S) (m : Moment) (inner : F) (f 
   pub status : f.status_code ≡ s.status_code
 
 -- the inner call, and a future over what it gave
-abbrev pub CallGives : {S R F : Type 0} → Calls S R F → Timeout S → R → Recorded → Moment → Result (ResponseFuture F) NoMemory → S → Recorded → Type 0
-CallGives {F = F} calls old req was m (Ok f) inner now = (given : F) × calls old.inner req was m (Ok given) inner now × IsStarted old m given f
-CallGives calls old req was m (Err e) inner now = calls old.inner req was m (Err e) inner now
-
 pub record TimeoutCalls {S R F : Type 0} (calls : Calls S R F) (old : Timeout S) (req : R) (was : Recorded) (m : Moment)
     (answer : Result (ResponseFuture F) NoMemory) (new : Timeout S) (now : Recorded) : Type 0 where
-  pub inner : CallGives calls old req was m answer new.inner now
+  pub inner : CallsOver calls (IsStarted old m) old.inner req was m answer new.inner now
   pub same : new ≡ record old { inner = new.inner }
-
-abbrev pub TimeoutAbandons : {F : Type 0} → Abandons F → Abandons (ResponseFuture F)
-TimeoutAbandons abandons old was m answer now = AbandonsIfAny abandons old.inner was m answer now
 
 -- the status with no headers and a default body
 abbrev pub IsTimedOut : {B X E : Type 0} → (B → Type 0) → (X → Type 0) → ℕ → Poll (Result (Response B X) E) → Type 0
@@ -60,7 +42,7 @@ IsTimedOut is_body is_ext status Pending = ⊥
 pub record DuePolls {F B X E : Type 0} (abandons : Abandons F) (is_body : B → Type 0) (is_ext : X → Type 0)
     (old : ResponseFuture F) (was : Recorded) (m : Moment) (answer : Result (Poll (Result (Response B X) E)) NoMemory)
     (new : ResponseFuture F) (now : Recorded) : Type 0 where
-  pub left : AbandonsIfAny abandons old.inner was m (spent answer) now
+  pub abandoned : AbandonsIfAny abandons old.inner was m (spent answer) now
   pub reply : IfOk answer (IsTimedOut is_body is_ext old.status_code)
   pub after : new ≡ record old { inner = None }
 
@@ -70,6 +52,7 @@ pub record InnerPolls {F A : Type 0} (polls : Polls F A) (old : ResponseFuture F
   pub inner : PollsWithin polls old.inner was m answer new.inner now
   pub same : new ≡ record old { inner = new.inner }
 
+-- by its timer: due, it answers the status; else the inner future answers
 pub record TimeoutPolls {F B X E : Type 0} (polls : Polls F (Result (Response B X) E)) (abandons : Abandons F)
     (is_body : B → Type 0) (is_ext : X → Type 0) (old : ResponseFuture F) (was : Recorded) (m : Moment)
     (answer : Result (Poll (Result (Response B X) E)) NoMemory) (new : ResponseFuture F) (now : Recorded) : Type 0 where

@@ -27,7 +27,9 @@ pub enum DriveClassifier {
 /// What `DriveClassifier` classifies a failure as: what the one named does.
 #[derive(Debug, Drop)]
 pub enum DriveFailureClass {
+    /// A failure that `ServerErrorsAsFailures` told.
     Http(ServerErrorsFailureClass),
+    /// A failure that `GrpcErrorsAsFailures` told.
     Grpc(GrpcFailureClass),
 }
 
@@ -44,13 +46,12 @@ fn classify_http<B, X>(
 ) -> Got<ClassifiedResponse<DriveFailureClass, DriveClassifyEos>>
     ensures { HttpResponse res.now.head.parts result }
 {
-    match ServerErrorsAsFailures::new().classify_response(alloc, res) {
-        Ok(ClassifiedResponse::Ready(Ok(()))) => Ok(ClassifiedResponse::Ready(Ok(()))),
-        Ok(ClassifiedResponse::Ready(Err(class))) => {
+    match ServerErrorsAsFailures::new().classify_response(alloc, res)? {
+        ClassifiedResponse::Ready(Ok(())) => Ok(ClassifiedResponse::Ready(Ok(()))),
+        ClassifiedResponse::Ready(Err(class)) => {
             Ok(ClassifiedResponse::Ready(Err(DriveFailureClass::Http(class))))
         }
-        Ok(ClassifiedResponse::RequiresEos(_)) => unreachable!(),
-        Err(no_memory) => Err(no_memory),
+        ClassifiedResponse::RequiresEos(_) => unreachable!(),
     }
 }
 
@@ -61,15 +62,14 @@ fn classify_grpc<B, X>(
 ) -> Got<ClassifiedResponse<DriveFailureClass, DriveClassifyEos>>
     ensures { GrpcResponse res.now.head.parts result }
 {
-    match GrpcErrorsAsFailures::new().classify_response(alloc, res) {
-        Ok(ClassifiedResponse::Ready(Ok(()))) => Ok(ClassifiedResponse::Ready(Ok(()))),
-        Ok(ClassifiedResponse::Ready(Err(class))) => {
+    match GrpcErrorsAsFailures::new().classify_response(alloc, res)? {
+        ClassifiedResponse::Ready(Ok(())) => Ok(ClassifiedResponse::Ready(Ok(()))),
+        ClassifiedResponse::Ready(Err(class)) => {
             Ok(ClassifiedResponse::Ready(Err(DriveFailureClass::Grpc(class))))
         }
-        Ok(ClassifiedResponse::RequiresEos(grpc)) => {
+        ClassifiedResponse::RequiresEos(grpc) => {
             Ok(ClassifiedResponse::RequiresEos(DriveClassifyEos { grpc }))
         }
-        Err(no_memory) => Err(no_memory),
     }
 }
 
@@ -141,10 +141,9 @@ impl ClassifyEos for DriveClassifyEos {
         alloc: Global,
         trailers: Option<&HeaderMap>,
     ) -> Got<Result<(), DriveFailureClass>> {
-        match self.grpc.classify_eos(alloc, trailers) {
-            Ok(Ok(())) => Ok(Ok(())),
-            Ok(Err(class)) => Ok(Err(DriveFailureClass::Grpc(class))),
-            Err(no_memory) => Err(no_memory),
+        match self.grpc.classify_eos(alloc, trailers)? {
+            Ok(()) => Ok(Ok(())),
+            Err(class) => Ok(Err(DriveFailureClass::Grpc(class))),
         }
     }
 

@@ -1,8 +1,7 @@
 //! A classifier of gRPC responses, by `grpc-status` in their headers or trailers.
 ghost use Rattle.std.specs.Prelude.{◌≡◌, ◌||◌, true, Ok, IfOk};
-ghost use Rattle.life_classify.specs.Code.{has, is_code, ok_alone};
-ghost use Rattle.life_classify.specs.Grpc.{grpc_parsed};
-ghost use Rattle.life_classify.specs.GrpcClasses.{trailers_told};
+ghost use Rattle.life_classify.specs.Code.{codes_in, has_bit, has_code, is_code, ok_alone, with_code};
+ghost use Rattle.life_classify.specs.GrpcClasses.{end_told};
 ghost use Rattle.life_classify.specs.declared.classify.grpc_errors_as_failures.code.GrpcCode.TheVariants as code;
 ghost use Rattle.life_classify.specs.declared.classify.grpc_errors_as_failures.code.GrpcCode.{GrpcCode};
 
@@ -37,21 +36,32 @@ pub struct GrpcErrorsAsFailures {
 }
 
 impl Model for GrpcErrorsAsFailures {
-    ghost use Rattle.std.specs.Prelude.{◌≡◌, ℕ, true};
-    ghost use Rattle.life_classify.specs.Code.{has};
+    ghost use Rattle.std.specs.Prelude.{◌≡◌, List, true};
+    ghost use Rattle.life_classify.specs.Code.{codes_in, has_bit};
+    ghost use Rattle.life_classify.specs.declared.classify.grpc_errors_as_failures.code.GrpcCode.{GrpcCode as Code};
     ghost use Rattle.life_classify.specs.declared.classify.grpc_errors_as_failures.code.GrpcCode.TheVariants as code;
 
-    ghost Value = { ℕ };
+    ghost Value = { List Code };
 
-    ghost view = { λ classifier. classifier.success_codes.0 };
+    ghost view = { λ classifier. codes_in classifier.success_codes.0 };
 
-    ghost invariant = { λ classifier. has classifier.success_codes.0 code.Ok ≡ true };
+    ghost invariant = { λ classifier. has_bit classifier.success_codes.0 code.Ok ≡ true };
+}
+
+/// The set with this code, too.
+fn inserted(mut set: GrpcCodeBitmask, code: GrpcCode) -> GrpcCodeBitmask
+    ensures { (other : GrpcCode)
+        → has_bit result.0 other ≡ (has_bit set.0 other || is_code code other) }
+{
+    set.insert(code.into_bitmask());
+    set
 }
 
 impl GrpcErrorsAsFailures {
     ghost use Rattle.life_classify.specs.Shared.{shared};
 
     /// The classifier for which `Ok` alone is a success.
+    #[tactic(auto, using(crate::proofs::CodeSets::ok_alone_in))]
     pub fn new() -> GrpcErrorsAsFailures
         ensures { result ≡ ok_alone }
     {
@@ -61,12 +71,14 @@ impl GrpcErrorsAsFailures {
     }
 
     /// The classifier for which this code is a success too. It takes no memory.
-    pub fn with_success(mut self, code: GrpcCode) -> GrpcErrorsAsFailures
-        ensures adds { (other : GrpcCode) → has result other ≡ (has self other || is_code code other) }
-        ensures keeps_ok { has result GrpcCode.Ok ≡ true }
+    #[tactic(auto, using(crate::proofs::CodeSets::with_code_in, crate::proofs::CodeSets::has_code_in))]
+    pub fn with_success(self, code: GrpcCode) -> GrpcErrorsAsFailures
+        ensures set { result ≡ with_code self code }
+        ensures keeps_ok { has_code result GrpcCode.Ok ≡ true }
     {
-        self.success_codes.insert(code.into_bitmask());
-        self
+        GrpcErrorsAsFailures {
+            success_codes: inserted(self.success_codes, code),
+        }
     }
 
     /// The maker of twins of the classifier for which `Ok` alone is a success.
@@ -77,9 +89,11 @@ impl GrpcErrorsAsFailures {
     }
 
     /// The set of successes.
+    #[tactic(auto, using(crate::proofs::CodeSets::has_code_in))]
     pub(crate) fn success_codes(&self) -> GrpcCodeBitmask
-        ensures set { result.0 ≡ self.now }
-        ensures ok { has self.now GrpcCode.Ok ≡ true }
+        ensures set { codes_in result.0 ≡ self.now }
+        ensures ok { has_bit result.0 GrpcCode.Ok ≡ true }
+        ensures has_ok { has_code self.now GrpcCode.Ok ≡ true }
     {
         self.success_codes
     }
@@ -118,7 +132,7 @@ impl ClassifyResponse for GrpcErrorsAsFailures {
 
     ghost classifies_response = { ByHeaders };
 
-    ghost classifies_error = { λ _ text answer. ByText failure.Error text answer };
+    ghost classifies_error = { λ _. ByText failure.Error };
 
     fn classify_response<B, X>(
         self,
@@ -126,16 +140,15 @@ impl ClassifyResponse for GrpcErrorsAsFailures {
         res: &Response<B, X>,
     ) -> Got<ClassifiedResponse<GrpcFailureClass, GrpcEosErrorsAsFailures>> {
         let success_codes = self.success_codes;
-        match classify_grpc_metadata(alloc, res.headers(), success_codes) {
-            Ok(ParsedGrpcStatus::Success) => Ok(ClassifiedResponse::Ready(Ok(()))),
-            Ok(ParsedGrpcStatus::HeaderNotGrpcCode) => Ok(ClassifiedResponse::Ready(Ok(()))),
-            Ok(ParsedGrpcStatus::NonSuccess(status)) => {
+        match classify_grpc_metadata(alloc, res.headers(), success_codes)? {
+            ParsedGrpcStatus::Success => Ok(ClassifiedResponse::Ready(Ok(()))),
+            ParsedGrpcStatus::HeaderNotGrpcCode => Ok(ClassifiedResponse::Ready(Ok(()))),
+            ParsedGrpcStatus::NonSuccess(status) => {
                 Ok(ClassifiedResponse::Ready(Err(GrpcFailureClass::Status(status))))
             }
-            Ok(ParsedGrpcStatus::GrpcStatusHeaderMissing) => {
+            ParsedGrpcStatus::GrpcStatusHeaderMissing => {
                 Ok(ClassifiedResponse::RequiresEos(GrpcEosErrorsAsFailures { success_codes }))
             }
-            Err(no_memory) => Err(no_memory),
         }
     }
 
@@ -153,11 +166,16 @@ pub struct GrpcEosErrorsAsFailures {
 }
 
 impl Model for GrpcEosErrorsAsFailures {
-    ghost use Rattle.std.specs.Prelude.{ℕ};
+    ghost use Rattle.std.specs.Prelude.{◌≡◌, List, true};
+    ghost use Rattle.life_classify.specs.Code.{codes_in, has_bit};
+    ghost use Rattle.life_classify.specs.declared.classify.grpc_errors_as_failures.code.GrpcCode.{GrpcCode as Code};
+    ghost use Rattle.life_classify.specs.declared.classify.grpc_errors_as_failures.code.GrpcCode.TheVariants as code;
 
-    ghost Value = { ℕ };
+    ghost Value = { List Code };
 
-    ghost view = { λ classifier. classifier.success_codes.0 };
+    ghost view = { λ classifier. codes_in classifier.success_codes.0 };
+
+    ghost invariant = { λ classifier. has_bit classifier.success_codes.0 code.Ok ≡ true };
 }
 
 impl Twin for GrpcEosErrorsAsFailures {
@@ -177,14 +195,13 @@ fn classify_trailers(
     trailers: &HeaderMap,
     success_codes: GrpcCodeBitmask,
 ) -> Got<Result<(), GrpcFailureClass>>
-    ensures { IfOk result (λ told. told ≡ trailers_told (grpc_parsed success_codes.0 trailers.now)) }
+    ensures { IfOk result (λ told. told ≡ end_told (codes_in success_codes.0) trailers.now) }
 {
-    match classify_grpc_metadata(alloc, trailers, success_codes) {
-        Ok(ParsedGrpcStatus::NonSuccess(status)) => Ok(Err(GrpcFailureClass::Status(status))),
-        Ok(ParsedGrpcStatus::Success) => Ok(Ok(())),
-        Ok(ParsedGrpcStatus::GrpcStatusHeaderMissing) => Ok(Ok(())),
-        Ok(ParsedGrpcStatus::HeaderNotGrpcCode) => Ok(Ok(())),
-        Err(no_memory) => Err(no_memory),
+    match classify_grpc_metadata(alloc, trailers, success_codes)? {
+        ParsedGrpcStatus::NonSuccess(status) => Ok(Err(GrpcFailureClass::Status(status))),
+        ParsedGrpcStatus::Success => Ok(Ok(())),
+        ParsedGrpcStatus::GrpcStatusHeaderMissing => Ok(Ok(())),
+        ParsedGrpcStatus::HeaderNotGrpcCode => Ok(Ok(())),
     }
 }
 
@@ -200,7 +217,7 @@ impl ClassifyEos for GrpcEosErrorsAsFailures {
 
     ghost classifies_eos = { ByTrailers };
 
-    ghost classifies_error = { λ _ text answer. ByText failure.Error text answer };
+    ghost classifies_error = { λ _. ByText failure.Error };
 
     fn classify_eos(
         self,

@@ -1,6 +1,6 @@
 //! A classifier that changes the failure class of another.
 ghost use Rattle.std.specs.Prelude.{◌≡◌};
-ghost use Rattle.life_classify.specs.Mapped.{MapsResponse, MapsEos, MapsError};
+ghost use Rattle.life_classify.specs.Mapped.{ResponseMapped, EosMapped, ErrorMapped};
 
 use crate::classify::traits::{ClassifiedResponse, ClassifyEos, ClassifyResponse};
 use http::HeaderMap;
@@ -33,11 +33,11 @@ where
 {
     type FailureClass = NewClass;
 
-    ghost may = { λ m. C.may m.inner × F.IsAlwaysCallable m.f };
+    ghost may = { λ whole. C.may whole.inner × F.IsAlwaysCallable whole.f };
 
-    ghost classifies_eos = { λ m trailers answer. MapsEos (F.post m.f) (C.classifies_eos m.inner trailers) answer };
+    ghost classifies_eos = { EosMapped F.post C.classifies_eos };
 
-    ghost classifies_error = { λ m text answer. MapsError (F.post m.f) (C.classifies_error m.inner text) answer };
+    ghost classifies_error = { ErrorMapped F.post C.classifies_error };
 
     fn classify_eos(
         self,
@@ -45,10 +45,9 @@ where
         trailers: Option<&HeaderMap>,
     ) -> Got<Result<(), NewClass>> {
         let MapFailureClass { inner, f } = self;
-        match inner.classify_eos(alloc, trailers) {
-            Ok(Ok(())) => Ok(Ok(())),
-            Ok(Err(class)) => Ok(Err(f(class))),
-            Err(no_memory) => Err(no_memory),
+        match inner.classify_eos(alloc, trailers)? {
+            Ok(()) => Ok(Ok(())),
+            Err(class) => Ok(Err(f(class))),
         }
     }
 
@@ -69,11 +68,11 @@ where
 
     type ClassifyEos = MapFailureClass<C::ClassifyEos, F>;
 
-    ghost may = { λ m. C.may m.inner × F.IsAlwaysCallable m.f };
+    ghost may = { λ whole. C.may whole.inner × F.IsAlwaysCallable whole.f };
 
-    ghost classifies_response = { λ m parts answer. MapsResponse m.f (F.post m.f) (C.classifies_response m.inner parts) answer };
+    ghost classifies_response = { ResponseMapped F.post C.classifies_response };
 
-    ghost classifies_error = { λ m text answer. MapsError (F.post m.f) (C.classifies_error m.inner text) answer };
+    ghost classifies_error = { ErrorMapped F.post C.classifies_error };
 
     fn classify_response<B, X>(
         self,
@@ -81,15 +80,12 @@ where
         res: &Response<B, X>,
     ) -> Got<ClassifiedResponse<NewClass, MapFailureClass<C::ClassifyEos, F>>> {
         let MapFailureClass { inner, f } = self;
-        match inner.classify_response(alloc, res) {
-            Ok(ClassifiedResponse::Ready(Ok(()))) => Ok(ClassifiedResponse::Ready(Ok(()))),
-            Ok(ClassifiedResponse::Ready(Err(class))) => {
-                Ok(ClassifiedResponse::Ready(Err(f(class))))
-            }
-            Ok(ClassifiedResponse::RequiresEos(inner)) => {
+        match inner.classify_response(alloc, res)? {
+            ClassifiedResponse::Ready(Ok(())) => Ok(ClassifiedResponse::Ready(Ok(()))),
+            ClassifiedResponse::Ready(Err(class)) => Ok(ClassifiedResponse::Ready(Err(f(class)))),
+            ClassifiedResponse::RequiresEos(inner) => {
                 Ok(ClassifiedResponse::RequiresEos(MapFailureClass { inner, f }))
             }
-            Err(no_memory) => Err(no_memory),
         }
     }
 

@@ -57,9 +57,9 @@ impl ClassifyResponse for ServerErrorsAsFailures {
 
     ghost may = { λ _. ⊤ };
 
-    ghost classifies_response = { λ _ parts answer. ByStatus (is_between 500 599) failure.StatusCode parts answer };
+    ghost classifies_response = { λ _. ByStatus (is_between 500 599) failure.StatusCode };
 
-    ghost classifies_error = { λ _ text answer. ByText failure.Error text answer };
+    ghost classifies_error = { λ _. ByText failure.Error };
 
     fn classify_response<B, X>(
         self,

@@ -1,15 +1,13 @@
 //! A classifier by a range of statuses.
 ghost use Rattle.std.specs.Prelude.{◌≡◌, ℕ, Ok};
-ghost use Rattle.std.specs.Range.{range_inclusive_start, range_inclusive_end};
 ghost use Rattle.std.specs.Result.{OkIff};
-ghost use Rattle.http.specs.StatusCode.{IsStatusCode};
 
 use crate::classify::never_classify_eos::NeverClassifyEos;
 use crate::classify::shared_classifier::SharedClassifier;
 use crate::classify::text::text_of;
 use crate::classify::traits::{ClassifiedResponse, ClassifyResponse};
 use http::StatusCode;
-use life_core::{Got, NoMemory, Response, Text, Twin};
+use life_core::{Got, Response, Text, Twin};
 use std::alloc::Global;
 use std::fmt;
 use std::fmt::Display;
@@ -27,13 +25,12 @@ pub struct StatusInRangeAsFailures {
 
 impl StatusInRangeAsFailures {
     ghost use Rattle.life_classify.specs.Shared.{shared};
-    ghost use Rattle.life_classify.specs.Status.{failures_in, fails, is_between};
+    ghost use Rattle.life_classify.specs.Status.{HasStatusEnds, failures_in, fails, is_between};
 
     /// The classifier by this range, both of whose ends must be from 100 to 999. A range that runs backwards
     /// contains nothing. It takes no memory.
     pub fn new(range: RangeInclusive<u16>) -> Result<StatusInRangeAsFailures, BadStatusRange>
-        ensures { OkIff result (IsStatusCode (range_inclusive_start range) × IsStatusCode (range_inclusive_end range))
-            (failures_in range) }
+        ensures { OkIff result (HasStatusEnds range) (failures_in range) }
     {
         if StatusCode::from_u16(*range.start()).is_err() {
             return Err(BadStatusRange);
@@ -70,9 +67,9 @@ impl ClassifyResponse for StatusInRangeAsFailures {
 
     ghost may = { λ _. ⊤ };
 
-    ghost classifies_response = { λ classifier parts answer. ByStatus (fails classifier) failure.StatusCode parts answer };
+    ghost classifies_response = { λ classifier. ByStatus (fails classifier) failure.StatusCode };
 
-    ghost classifies_error = { λ _ text answer. ByText failure.Error text answer };
+    ghost classifies_error = { λ _. ByText failure.Error };
 
     fn classify_response<B, X>(
         self,
@@ -104,10 +101,8 @@ impl Twin for StatusInRangeAsFailures {
     fn twin(&self, _alloc: Global) -> Got<StatusInRangeAsFailures>
         ensures { result ≡ Ok self.now }
     {
-        match self.range.clone() {
-            Ok(range) => Ok(StatusInRangeAsFailures { range }),
-            Err(_) => Err(NoMemory),
-        }
+        let range = self.range.clone()?;
+        Ok(StatusInRangeAsFailures { range })
     }
 }
 

@@ -1,7 +1,7 @@
 //! What all classifiers hold of an error.
 ghost use Rattle.std.specs.Prelude.{◌≡◌, IfOk, IfSome};
 
-use life_core::{Got, NoMemory, Text};
+use life_core::{Got, Text};
 use std::alloc::Global;
 use std::fmt::Display;
 
@@ -9,8 +9,6 @@ use std::fmt::Display;
 pub(crate) fn text_of<E: Display>(alloc: Global, error: &E) -> Got<Text>
     ensures { IfOk result (λ text. IfSome (E.output error.now) (λ shown. text ≡ shown)) }
 {
-    match error.to_string(alloc) {
-        Ok(text) => Text::copy(alloc, text.as_str()),
-        Err(_) => Err(NoMemory),
-    }
+    let text = error.to_string(alloc)?;
+    Text::copy(alloc, text.as_str())
 }

@@ -14,8 +14,11 @@ use std::convert::Infallible;
 
 /// The body of a service, that of a response to its panic, or none. It forwards all calls.
 pub enum UnsyncBoxBody<B, P> {
+    /// The body of the service.
     Inner(B),
+    /// The body that tells of a panic.
     Panic(P),
+    /// No body.
     Empty,
 }
 

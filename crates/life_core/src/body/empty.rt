@@ -1,6 +1,7 @@
 //! A body of nothing, after http-body-util's `Empty`.
 ghost use Rattle.std.specs.Prelude.{◌≡◌, ⊤, true, Some, Ok};
-ghost use Rattle.life_core.specs.Full.{EmptyFrames, NothingToAbandon, empty_body};
+ghost use Rattle.life_core.specs.Calls.{NothingToAbandon};
+ghost use Rattle.life_core.specs.Full.{EmptyFrames, empty_body};
 
 use crate::Got;
 use crate::body::Body;

@@ -1,9 +1,10 @@
 //! A body of one chunk, after http-body-util's `Full`.
 ghost use Rattle.std.specs.Prelude.{◌≡◌, ⊤};
-ghost use Rattle.life_core.specs.Full.{FullFrames, IsEmptyFull, NothingToAbandon, full_of, full_ends, full_hints};
+ghost use Rattle.life_core.specs.Calls.{NothingToAbandon};
+ghost use Rattle.life_core.specs.Full.{FullFrames, IsEmptyFull, full_of, full_ends, full_hints};
 
 use crate::Got;
-use crate::body::Body;
+use crate::body::{Body, DefaultBody};
 use crate::context::Cx;
 use crate::poll::Poll;
 use crate::recorder::{NoMemory, Recorder};
@@ -94,4 +95,8 @@ impl<L: Recorder> Body<L> for Full {
             None => SizeHint::with_exact(0),
         }
     }
+}
+
+impl<L: Recorder> DefaultBody<L> for Full {
+    ghost default_may = { λ _ _. tt };
 }

@@ -1,6 +1,6 @@
 //! A body with room for so many bytes, after http-body-util's `Limited`.
 ghost use Rattle.std.specs.Prelude.{◌≡◌};
-ghost use Rattle.life_core.specs.Limited.{LimitedMay, LimitedAbandons, LimitedFrames, limited_of, limited_ends, limited_hints, length_of};
+ghost use Rattle.life_core.specs.Limited.{LimitedFrames, hints_within, limited_of, length_of};
 
 use crate::Got;
 use crate::body::{Body, BodyError};
@@ -38,9 +38,9 @@ fn length_of(frame: &Frame<Bytes>) -> u64
 }
 
 impl<B: Spend<L>, L: Recorder> Spend<L> for Limited<B> {
-    ghost may = { LimitedMay B.may };
+    ghost may = { λ b. B.may b.body };
 
-    ghost abandons = { LimitedAbandons B.abandons };
+    ghost abandons = { λ b. B.abandons b.body };
 
     fn abandon(self, cx: &mut Cx<'_, L>) -> Got<()> {
         let Limited { body, room: _ } = self;
@@ -59,9 +59,9 @@ where
 
     ghost frames = { LimitedFrames B.frames };
 
-    ghost ends = { limited_ends B.ends };
+    ghost ends = { λ b. B.ends b.body };
 
-    ghost hints = { limited_hints B.hints };
+    ghost hints = { λ b. hints_within b.room (B.hints b.body) };
 
     fn poll_frame(
         &mut self,

@@ -5,7 +5,7 @@ ghost use Rattle.life_drop.specs.EarlyFuture.{EarlyFutureMay, EarlyFutureLive, E
 use crate::on_early_drop::body::OnEarlyDropBody;
 use crate::on_early_drop::guard::OnEarlyDropGuard;
 use crate::on_early_drop::traits::{OnBodyDrop, OnDropCallback};
-use life_core::{Body, Cx, Future, Got, Poll, Recorder, Response, Spend};
+use life_core::{Body, Cx, Future, Got, Life, Poll, Recorder, Response, Spend};
 use std::marker::PhantomData;
 
 /// A future whose callback is called where it is abandoned before it answered. `Q` is the type of the
@@ -15,26 +15,30 @@ pub struct OnEarlyDropFuture<F, C, H, I, Q> {
     guard: OnEarlyDropGuard<C>,
     on_body_drop: H,
     intermediate: Option<I>,
+    called: u64,
     request_body: PhantomData<Q>,
 }
 
 impl<F, C, H, I, Q> OnEarlyDropFuture<F, C, H, I, Q> {
     ghost use Rattle.life_drop.specs.EarlyFuture.{IsWatched};
 
-    /// The future under a guard with this callback, and what its body will be watched by.
+    /// The future of a request that was called at `called`, under a guard with this callback, and what its body
+    /// will be watched by.
     pub(crate) fn new(
         inner: F,
         callback: C,
         on_body_drop: H,
         intermediate: I,
+        called: u64,
     ) -> OnEarlyDropFuture<F, C, H, I, Q>
-        ensures { IsWatched inner callback on_body_drop intermediate result }
+        ensures { IsWatched inner callback on_body_drop intermediate called result }
     {
         OnEarlyDropFuture {
             inner,
             guard: OnEarlyDropGuard::new(callback),
             on_body_drop,
             intermediate: Some(intermediate),
+            called,
             request_body: PhantomData,
         }
     }
@@ -59,6 +63,7 @@ where
             guard,
             on_body_drop: _,
             intermediate: _,
+            called: _,
             request_body: _,
         } = self;
         let now = cx.now;
@@ -87,6 +92,7 @@ where
         &mut self,
         cx: &mut Cx<'_, L>,
     ) -> Got<Poll<Result<Response<OnEarlyDropBody<B, H::Callback>, X>, E>>> {
+        let now = cx.now;
         let (head, body) = match self.inner.poll(cx)? {
             Poll::Ready(Ok(Response { head, body })) => (head, body),
             Poll::Ready(Err(error)) => {
@@ -105,12 +111,14 @@ where
         {
             Ok(callback) => {
                 let mut guard = OnEarlyDropGuard::new(callback);
-                if body.is_end_stream() {
+                let ended = body.is_end_stream();
+                if ended {
                     guard.completed();
                 }
+                let life = Life::begin(self.called, now, ended);
                 Ok(Poll::Ready(Ok(Response {
                     head,
-                    body: OnEarlyDropBody::new(body, guard),
+                    body: OnEarlyDropBody::new(body, guard, life),
                 })))
             }
             Err(no_memory) => {

@@ -30,7 +30,7 @@ impl<C> OnEarlyDropGuard<C> {
         self.callback = None;
     }
 
-    /// Calls the callback, where the guard was not completed. The one error is the callback's want of memory.
+    /// Calls the callback, where the guard was not completed. An error is the callback's.
     pub fn abandon<L: Recorder>(self, alloc: Global, now: u64, rec: &mut L) -> Got<()>
     where
         C: OnDropCallback<L>,

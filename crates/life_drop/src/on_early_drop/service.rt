@@ -7,6 +7,7 @@ use crate::on_early_drop::traits::{OnBodyDrop, OnFutureDrop};
 use life_core::{
     Body, Cx, Got, Poll, Recorder, Request, Response, Service, Spend, Twin, abandon_request,
 };
+use std::alloc::Global;
 
 /// Puts each future and each response's body under a guard.
 #[derive(Drop)]
@@ -18,8 +19,7 @@ pub struct OnEarlyDropService<S, OFD, OBD> {
 
 impl<S, OFD, OBD> OnEarlyDropService<S, OFD, OBD> {
     ghost use Rattle.std.specs.Borrow.{sem};
-    ghost use Rattle.life_drop.specs.EarlyService.{IsEarlyDropService, early_inner};
-    ghost use Rattle.life_drop.specs.Lending.{LendsEarlyInner};
+    ghost use Rattle.life_drop.specs.EarlyService.{IsEarlyDropService, LendsEarlyInner};
 
     /// The service with a hook for its futures and one for its responses' bodies.
     pub fn new(inner: S, on_future_drop: OFD, on_body_drop: OBD) -> OnEarlyDropService<S, OFD, OBD>
@@ -34,7 +34,7 @@ impl<S, OFD, OBD> OnEarlyDropService<S, OFD, OBD> {
 
     /// The inner service.
     pub fn get_ref(&self) -> &S
-        ensures { result.now ≡ early_inner self.now }
+        ensures { result.now ≡ self.now.inner }
     {
         &self.inner
     }
@@ -42,7 +42,7 @@ impl<S, OFD, OBD> OnEarlyDropService<S, OFD, OBD> {
     /// The inner service, to be changed.
     pub fn get_mut(&mut self) -> &mut S
         ensures* writes_back { sem 𝓛 (LendsEarlyInner S.row OFD.row OBD.row self.entry result) }
-        ensures value { result.now ≡ early_inner self.old }
+        ensures value { result.now ≡ self.old.inner }
     {
         &mut self.inner
     }
@@ -52,7 +52,7 @@ impl<S, OFD, OBD> OnEarlyDropService<S, OFD, OBD> {
     where
         OFD: Drop,
         OBD: Drop,
-        ensures { result ≡ early_inner self }
+        ensures { result ≡ self.inner }
     {
         let OnEarlyDropService {
             inner,
@@ -60,6 +60,15 @@ impl<S, OFD, OBD> OnEarlyDropService<S, OFD, OBD> {
             on_body_drop: _,
         } = self;
         inner
+    }
+}
+
+impl<S: Twin + Drop, OFD: Twin + Drop, OBD: Twin> Twin for OnEarlyDropService<S, OFD, OBD> {
+    fn twin(&self, alloc: Global) -> Got<OnEarlyDropService<S, OFD, OBD>> {
+        let inner = self.inner.twin(alloc)?;
+        let on_future_drop = self.on_future_drop.twin(alloc)?;
+        let on_body_drop = self.on_body_drop.twin(alloc)?;
+        Ok(OnEarlyDropService::new(inner, on_future_drop, on_body_drop))
     }
 }
 
@@ -79,11 +88,12 @@ where
 
     type Future = OnEarlyDropFuture<S::Future, OFD::Callback, OBD, OBD::Intermediate, B>;
 
-    ghost use Rattle.life_drop.specs.EarlyService.{EarlyMay, EarlyCalls, EarlyReadies};
+    ghost use Rattle.life_core.specs.Calls.{Forwards};
+    ghost use Rattle.life_drop.specs.EarlyService.{EarlyMay, EarlyCalls};
 
     ghost may = { EarlyMay S.may OFD.may OBD.may };
 
-    ghost readies = { EarlyReadies S.readies };
+    ghost readies = { Forwards (λ s. s.inner) (λ s inner. record s { inner = inner }) S.readies };
 
     ghost calls = { EarlyCalls S.calls OFD.makes OBD.makes_at_call B.abandons };
 
@@ -107,7 +117,8 @@ where
             Ok(on_body_drop) => on_body_drop,
             Err(_) => return Err(abandon_request(req, cx)),
         };
+        let called = cx.now;
         let inner = self.inner.call(req, cx)?;
-        Ok(OnEarlyDropFuture::new(inner, callback, on_body_drop, intermediate))
+        Ok(OnEarlyDropFuture::new(inner, callback, on_body_drop, intermediate, called))
     }
 }

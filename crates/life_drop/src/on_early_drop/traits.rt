@@ -43,7 +43,8 @@ pub trait OnFutureDrop<B, X, L: Recorder>: Drop {
         span: &Option<Span>,
     ) -> Got<Self::Callback>
         requires { may self.old }
-        ensures makes { makes self.old request.now (record { now = now; span = span.now }) result self.new }
+        ensures makes { makes self.old request.now (record { now = now; span = span.now })
+            result self.new }
         ensures may { may self.new }
         ensures callback { IfOk result Self.Callback.may };
 }
@@ -61,10 +62,12 @@ pub trait OnBodyDrop<B, X, L: Recorder>: Drop {
     ghost may_respond: { Self.Intermediate → Type 0 };
 
     /// What a call of `make_at_call` means.
-    ghost makes_at_call: { Self → Request B X → Moment → Result Self.Intermediate NoMemory → Self → Type 0 };
+    ghost makes_at_call: { Self → Request B X → Moment
+        → Result Self.Intermediate NoMemory → Self → Type 0 };
 
     /// What a call of `make_at_response` means.
-    ghost makes_at_response: { Self → Self.Intermediate → ResponseHead X → Result Self.Callback NoMemory → Self → Type 0 };
+    ghost makes_at_response: { Self → Self.Intermediate → ResponseHead X
+        → Result Self.Callback NoMemory → Self → Type 0 };
 
     /// What is kept of a request that is called at `now`.
     fn make_at_call(
@@ -75,7 +78,8 @@ pub trait OnBodyDrop<B, X, L: Recorder>: Drop {
         span: &Option<Span>,
     ) -> Got<Self::Intermediate>
         requires { may self.old }
-        ensures makes { makes_at_call self.old request.now (record { now = now; span = span.now }) result self.new }
+        ensures makes { makes_at_call self.old request.now (record { now = now; span = span.now })
+            result self.new }
         ensures may { may self.new }
         ensures intermediate { IfOk result may_respond };
 

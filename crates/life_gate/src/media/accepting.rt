@@ -1,6 +1,6 @@
 //! Whether a request's `Accept` headers let a media type pass.
 ghost use Rattle.std.specs.Prelude.{◌↔◌, IsTrue, IfOk, Any};
-ghost use Rattle.life_gate.specs.Accepting.{accepted, IsMatch, Matches, Offers, IsAcceptable};
+ghost use Rattle.life_gate.specs.Accepting.{IsMatch, Matches, Offers, IsOffered, IsAcceptable};
 
 use crate::media::lists::media_list;
 use crate::media::types::{MediaItem, MediaType};
@@ -49,7 +49,7 @@ fn offers(alloc: Global, wanted: &MediaType, value: &HeaderValue) -> Got<bool>
 
 /// Whether some value of `accept` has an item that matches.
 fn some_offers(alloc: Global, headers: &HeaderMap, wanted: &MediaType) -> Got<bool>
-    ensures { IfOk result (λ offers. IsTrue offers ↔ Any (Offers wanted.now) (accepted headers.now)) }
+    ensures { IfOk result (λ offers. IsTrue offers ↔ IsOffered headers.now wanted.now) }
 {
     for value in headers.get_all(&ACCEPT).iter() {
         if offers(alloc, wanted, value)? {

@@ -1,7 +1,6 @@
 //! A list of media types and how it is read.
-ghost use Rattle.std.specs.Prelude.{◌≡◌, List as Items, IfOk};
-ghost use Rattle.life_gate.specs.declared.media.types.MediaItem.{MediaItem as Item};
-ghost use Rattle.life_gate.specs.MediaList.{IsItem, IsMediaList};
+ghost use Rattle.std.specs.Prelude.{IfOk};
+ghost use Rattle.life_gate.specs.MediaList.{IsItem, IsMediaList, IsOnlyMediaList};
 
 use crate::media::pieces::cut;
 use crate::media::types::{MediaItem, MediaItems, media_type};
@@ -22,7 +21,7 @@ fn media_item(alloc: Global, piece: &[u8]) -> Got<MediaItem>
 /// text is one bad item.
 pub fn media_list(alloc: Global, text: &[u8]) -> Got<MediaItems>
     ensures read { IfOk result (λ list. IsMediaList text.now list.items) }
-    ensures only { IfOk result (λ list. (items : Items Item) → IsMediaList text.now items → list.items ≡ items) }
+    ensures only { IfOk result (λ list. IsOnlyMediaList text.now list.items) }
 {
     let mut items = List::new(alloc);
     let mut rest = text;

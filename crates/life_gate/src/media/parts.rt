@@ -1,9 +1,9 @@
 //! The parts of a media type's text.
-ghost use Rattle.std.specs.Prelude.{◌≡◌, ◌≢◌, ◌↔◌, ◌∷◌, IsTrue, ◌<◌, ◌≤◌, ℕ, List, true, false, length, slice_index, IfOk, MatchOption};
+ghost use Rattle.std.specs.Prelude.{◌≡◌, ◌↔◌, ◌∷◌, IsTrue, IfOk, MatchOption};
 ghost use Rattle.std.specs.List.{AllPass};
 ghost use Rattle.http_header.specs.Token.{is_token_byte, lowercase};
-ghost use Rattle.life_gate.specs.MediaType.{plus, slash, is_blank, is_plus, without_suffix, AreParameters, HasKind, HasSub};
-ghost use Rattle.life_gate.specs.Scanning.{IsFrontLen};
+ghost use Rattle.life_gate.specs.MediaType.{slash, is_blank, without_suffix, AreParameters, HasKind, HasNoKind, HasSub, HasNoSub};
+ghost use Rattle.life_gate.specs.Scanning.{IsFrontLen, BeginsWithNoSlash, HasNoPlus, IsLastPlus};
 
 use http_header::is_token_char;
 use life_core::{Got, Text};
@@ -29,7 +29,8 @@ fn token_len(text: &[u8]) -> usize
 
 /// What stands after a slash.
 fn after_slash(text: &[u8]) -> Option<&[u8]>
-    ensures { MatchOption result ((rest : List ℕ) → text.now ≢ slash ∷ rest) (λ rest. text.now ≡ slash ∷ rest.now) }
+    ensures { MatchOption result (BeginsWithNoSlash text.now)
+        (λ rest. text.now ≡ slash ∷ rest.now) }
 {
     match text {
         [b'/', rest @ ..] => Some(rest),
@@ -39,7 +40,8 @@ fn after_slash(text: &[u8]) -> Option<&[u8]>
 
 /// The token before a slash, with blanks before it, and what stands after the slash.
 pub fn kind_part(text: &[u8]) -> Option<(&[u8], &[u8])>
-    ensures { MatchOption result ((kind rest : List ℕ) → ¬ (HasKind text.now kind rest)) (λ found. HasKind text.now found.0.now found.1.now) }
+    ensures { MatchOption result (HasNoKind text.now)
+        (λ found. HasKind text.now found.0.now found.1.now) }
 {
     let (_, text) = text.split_at(blank_len(text));
     let (kind, text) = text.split_at(token_len(text));
@@ -64,7 +66,7 @@ fn are_parameters(text: &[u8]) -> bool
 
 /// The token at the front, after which only blanks and parameters come.
 pub fn sub_part(text: &[u8]) -> Option<&[u8]>
-    ensures { MatchOption result ((sub : List ℕ) → ¬ (HasSub text.now sub)) (λ sub. HasSub text.now sub.now) }
+    ensures { MatchOption result (HasNoSub text.now) (λ sub. HasSub text.now sub.now) }
 {
     let (sub, text) = text.split_at(token_len(text));
     let (_, text) = text.split_at(blank_len(text));
@@ -76,9 +78,7 @@ pub fn sub_part(text: &[u8]) -> Option<&[u8]>
 
 /// The index of the last plus.
 fn last_plus(token: &[u8]) -> Option<usize>
-    ensures { MatchOption result ((k : ℕ) → k < length token.now → is_plus (slice_index token.now k) ≡ false)
-        (λ i. (i < length token.now) × (slice_index token.now i ≡ plus)
-        × ((k : ℕ) → i < k → k < length token.now → is_plus (slice_index token.now k) ≡ false)) }
+    ensures { MatchOption result (HasNoPlus token.now) (λ i. IsLastPlus token.now i) }
 {
     token.iter().rposition(|b| *b == b'+')
 }

@@ -7,7 +7,9 @@ ghost use Rattle.life_gate.specs.Scanning.{ends, after, piece_len};
 /// Where a byte of a list stands.
 #[derive(Clone, Copy)]
 enum Place {
+    /// In no quoted part.
     Outside,
+    /// In a quoted part.
     Quoted,
     /// Behind a backslash in a quoted part.
     Escaped,
@@ -54,7 +56,8 @@ fn piece_len(text: &[u8]) -> usize
 
 /// The first piece and what stands after its comma, or none where the text is one piece.
 pub fn cut(text: &[u8]) -> Option<(&[u8], &[u8])>
-    ensures { MatchOption result (IsLastPiece text.now) (λ found. IsPiece found.0.now × (text.now ≡ found.0.now ++ comma ∷ found.1.now)) }
+    ensures { MatchOption result (IsLastPiece text.now)
+        (λ found. IsPiece found.0.now × (text.now ≡ found.0.now ++ comma ∷ found.1.now)) }
 {
     let (piece, rest) = text.split_at(piece_len(text));
     match rest {

@@ -3,13 +3,13 @@ ghost use Rattle.std.specs.Prelude.{◌≡◌, ◌↔◌, IfOk, IsErrOf, ⊤};
 ghost use Rattle.life_gate.specs.Accept.{AcceptValidates, accept_of};
 ghost use Rattle.life_gate.specs.MediaType.{IsMediaType, IsNoMediaType};
 ghost use Rattle.life_gate.specs.declared.media.types.MediaType.{MediaType as Media};
-ghost use Rattle.life_gate.specs.declared.validate_request.accept.AcceptError.TheVariants.{BadMime};
+ghost use Rattle.life_gate.specs.declared.validate_request.accept.AcceptError.TheVariants.{BadMime, NoMemory as WantsMemory};
 
 use crate::media::{MediaType, accepts, media_type};
 use crate::validate_request::refusal::bare_refusal;
 use crate::validate_request::validate::ValidateRequest;
 use http::StatusCode;
-use life_core::{Got, Request, Response, Twin};
+use life_core::{Got, NoMemory, Request, Response, Twin};
 use std::alloc::Global;
 use std::marker::PhantomData;
 use thiserror::Error;
@@ -20,8 +20,17 @@ pub enum AcceptError {
     /// It is no media type.
     #[error("invalid media type")]
     BadMime,
+    /// Memory was wanting.
     #[error("out of memory")]
     NoMemory,
+}
+
+impl From<NoMemory> for AcceptError {
+    ghost from_gives = { λ _ error. error ≡ WantsMemory };
+
+    fn from(_: NoMemory) -> AcceptError {
+        AcceptError::NoMemory
+    }
 }
 
 /// Lets a request pass where its `Accept` headers let one media type pass. It refuses any other with status
@@ -35,17 +44,17 @@ pub struct AcceptHeader<R> {
 impl<R> AcceptHeader<R> {
     /// A validator that asks for the media type that the text is. It refuses a text that is none as `BadMime`.
     pub(crate) fn new(alloc: Global, value: &str) -> Result<AcceptHeader<R>, AcceptError>
-        ensures made { IfOk result (λ made. (media : Media) × IsMediaType value.now media × (made ≡ accept_of media)) }
+        ensures made { IfOk result (λ made. (media : Media) × IsMediaType value.now media
+            × (made ≡ accept_of media)) }
         ensures invalid { IsErrOf result BadMime ↔ IsNoMediaType value.now }
     {
-        match media_type(alloc, value.as_bytes()) {
-            Ok(Some(media)) => Ok(AcceptHeader {
-                media,
-                refusal: PhantomData,
-            }),
-            Ok(None) => Err(AcceptError::BadMime),
-            Err(_) => Err(AcceptError::NoMemory),
-        }
+        let Some(media) = media_type(alloc, value.as_bytes())? else {
+            return Err(AcceptError::BadMime);
+        };
+        Ok(AcceptHeader {
+            media,
+            refusal: PhantomData,
+        })
     }
 }
 
@@ -75,10 +84,9 @@ where
         alloc: Global,
         request: &mut Request<B, X>,
     ) -> Got<Result<(), Response<R, X>>> {
-        match accepts(alloc, request.headers(), &self.media) {
-            Ok(true) => Ok(Ok(())),
-            Ok(false) => Ok(Err(bare_refusal(alloc, StatusCode::NOT_ACCEPTABLE))),
-            Err(no_memory) => Err(no_memory),
+        if accepts(alloc, request.headers(), &self.media)? {
+            return Ok(Ok(()));
         }
+        Ok(Err(bare_refusal(alloc, StatusCode::NOT_ACCEPTABLE)))
     }
 }

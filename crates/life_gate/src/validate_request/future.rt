@@ -1,6 +1,6 @@
 //! The future of `ValidateRequestHeader`.
 ghost use Rattle.std.specs.Prelude.{◌≡◌, None, Some};
-ghost use Rattle.life_gate.specs.Gate.{passing, refusing};
+ghost use Rattle.life_gate.specs.Gate.{GateKindMay, GateKindAbandons, passing, refusing};
 
 use life_core::{Cx, Future, Got, Poll, Recorder, Response, Spend};
 
@@ -43,11 +43,9 @@ where
     B: Spend<L>,
     X: Drop,
 {
-    ghost use Rattle.life_gate.specs.Gate.{GateFutureMay, GateAbandons};
+    ghost may = { λ f. GateKindMay F.may B.may f.kind };
 
-    ghost may = { GateFutureMay F.may B.may };
-
-    ghost abandons = { GateAbandons F.abandons B.abandons };
+    ghost abandons = { λ f. GateKindAbandons F.abandons B.abandons f.kind };
 
     fn abandon(self, cx: &mut Cx<'_, L>) -> Got<()> {
         let ResponseFuture { kind } = self;
@@ -72,9 +70,9 @@ where
 {
     type Output = Result<Response<B, X>, E>;
 
-    ghost use Rattle.life_gate.specs.Gate.{GateFutureLive, GatePolls};
+    ghost use Rattle.life_gate.specs.Gate.{GateKindLive, GatePolls};
 
-    ghost live = { GateFutureLive F.live };
+    ghost live = { λ f. GateKindLive F.live f.kind };
 
     ghost polls = { GatePolls F.polls };
 

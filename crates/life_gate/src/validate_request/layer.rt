@@ -8,13 +8,13 @@ ghost use Rattle.life_gate.specs.MediaType.{IsMediaType, IsNoMediaType};
 ghost use Rattle.life_gate.specs.Required.{required_of};
 ghost use Rattle.life_gate.specs.declared.media.types.MediaType.{MediaType as Media};
 ghost use Rattle.life_gate.specs.declared.validate_request.accept.AcceptError.TheVariants.{BadMime};
-ghost use Rattle.life_gate.specs.declared.validate_request.layer.NameError.TheVariants.{InvalidHeaderName};
+ghost use Rattle.life_gate.specs.declared.validate_request.layer.NameError.TheVariants.{InvalidHeaderName, NoMemory as WantsMemory};
 
 use crate::validate_request::accept::{AcceptError, AcceptHeader};
 use crate::validate_request::required::RequiredHeaderValue;
 use crate::validate_request::service::ValidateRequestHeader;
 use http::header::{HeaderName, HeaderNameError};
-use life_core::{Got, Layer, Text, Twin};
+use life_core::{Got, Layer, NoMemory, Text, Twin};
 use std::alloc::Global;
 use thiserror::Error;
 
@@ -25,8 +25,17 @@ pub enum NameError {
     /// section 5.6.2).
     #[error("invalid HTTP header name")]
     InvalidHeaderName,
+    /// Memory was wanting.
     #[error("out of memory")]
     NoMemory,
+}
+
+impl From<NoMemory> for NameError {
+    ghost from_gives = { λ _ error. error ≡ WantsMemory };
+
+    fn from(_: NoMemory) -> NameError {
+        NameError::NoMemory
+    }
 }
 
 /// Makes `ValidateRequestHeader` services.
@@ -44,20 +53,18 @@ impl<R> ValidateRequestHeaderLayer<RequiredHeaderValue<R>> {
         expected_header_value: &str,
     ) -> Result<ValidateRequestHeaderLayer<RequiredHeaderValue<R>>, NameError>
         ensures layer { IfOk result (λ layer.
-            layer ≡ gate_layer (required_of (lowercase expected_header_name.now) expected_header_value.now)) }
-        ensures invalid { IsErrOf result InvalidHeaderName ↔ ¬ (IsFieldName expected_header_name.now) }
+            layer ≡ gate_layer
+            (required_of (lowercase expected_header_name.now) expected_header_value.now)) }
+        ensures invalid { IsErrOf result InvalidHeaderName
+            ↔ ¬ (IsFieldName expected_header_name.now) }
     {
         let name = match HeaderName::from_bytes(alloc, expected_header_name.as_bytes()) {
             Ok(name) => name,
             Err(HeaderNameError::Invalid) => return Err(NameError::InvalidHeaderName),
             Err(HeaderNameError::OutOfMemory) => return Err(NameError::NoMemory),
         };
-        match Text::copy(alloc, expected_header_value) {
-            Ok(value) => Ok(ValidateRequestHeaderLayer::custom(RequiredHeaderValue::new(
-                name, value,
-            ))),
-            Err(_) => Err(NameError::NoMemory),
-        }
+        let value = Text::copy(alloc, expected_header_value)?;
+        Ok(ValidateRequestHeaderLayer::custom(RequiredHeaderValue::new(name, value)))
     }
 }
 
@@ -68,13 +75,12 @@ impl<R> ValidateRequestHeaderLayer<AcceptHeader<R>> {
         value: &str,
     ) -> Result<ValidateRequestHeaderLayer<AcceptHeader<R>>, AcceptError>
         ensures layer { IfOk result (λ layer.
-            (media : Media) × IsMediaType value.now media × (layer ≡ gate_layer (accept_of media))) }
+            (media : Media) × IsMediaType value.now media
+            × (layer ≡ gate_layer (accept_of media))) }
         ensures invalid { IsErrOf result BadMime ↔ IsNoMediaType value.now }
     {
-        match AcceptHeader::new(alloc, value) {
-            Ok(validate) => Ok(ValidateRequestHeaderLayer::custom(validate)),
-            Err(error) => Err(error),
-        }
+        let validate = AcceptHeader::new(alloc, value)?;
+        Ok(ValidateRequestHeaderLayer::custom(validate))
     }
 }
 
@@ -90,9 +96,9 @@ impl<T> ValidateRequestHeaderLayer<T> {
 impl<S, T: Twin> Layer<S> for ValidateRequestHeaderLayer<T> {
     type Service = ValidateRequestHeader<S, T>;
 
-    ghost use Rattle.life_gate.specs.Gate.{gate_round};
+    ghost use Rattle.life_gate.specs.Gate.{gate_service};
 
-    ghost round = { gate_round };
+    ghost round = { λ layer inner. gate_service inner layer.validate };
 
     fn layer(&self, alloc: Global, inner: S) -> Got<ValidateRequestHeader<S, T>>
     where

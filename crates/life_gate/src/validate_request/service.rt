@@ -34,20 +34,18 @@ impl<S, R> ValidateRequestHeader<S, AcceptHeader<R>> {
     where
         S: Drop,
         ensures service { IfOk result (λ service.
-            (media : Media) × IsMediaType value.now media × (service ≡ gate_service inner (accept_of media))) }
+            (media : Media) × IsMediaType value.now media
+            × (service ≡ gate_service inner (accept_of media))) }
         ensures invalid { IsErrOf result BadMime ↔ IsNoMediaType value.now }
     {
-        match AcceptHeader::new(alloc, value) {
-            Ok(validate) => Ok(ValidateRequestHeader::custom(inner, validate)),
-            Err(error) => Err(error),
-        }
+        let validate = AcceptHeader::new(alloc, value)?;
+        Ok(ValidateRequestHeader::custom(inner, validate))
     }
 }
 
 impl<S, T> ValidateRequestHeader<S, T> {
     ghost use Rattle.std.specs.Borrow.{sem};
-    ghost use Rattle.life_gate.specs.Gate.{gate_inner};
-    ghost use Rattle.life_gate.specs.Lending.{LendsGateInner};
+    ghost use Rattle.life_gate.specs.Gate.{LendsGateInner};
 
     /// The service whose requests this validator judges.
     pub fn custom(inner: S, validate: T) -> ValidateRequestHeader<S, T>
@@ -58,7 +56,7 @@ impl<S, T> ValidateRequestHeader<S, T> {
 
     /// The inner service.
     pub fn get_ref(&self) -> &S
-        ensures { result.now ≡ gate_inner self.now }
+        ensures { result.now ≡ self.now.inner }
     {
         &self.inner
     }
@@ -66,7 +64,7 @@ impl<S, T> ValidateRequestHeader<S, T> {
     /// The inner service, to be changed.
     pub fn get_mut(&mut self) -> &mut S
         ensures* writes_back { sem 𝓛 (LendsGateInner S.row T.row self.entry result) }
-        ensures value { result.now ≡ gate_inner self.old }
+        ensures value { result.now ≡ self.old.inner }
     {
         &mut self.inner
     }
@@ -75,7 +73,7 @@ impl<S, T> ValidateRequestHeader<S, T> {
     pub fn into_inner(self) -> S
     where
         T: Drop,
-        ensures { result ≡ gate_inner self }
+        ensures { result ≡ self.inner }
     {
         let ValidateRequestHeader { inner, validate: _ } = self;
         inner
@@ -90,8 +88,8 @@ impl<S: Twin + Drop, T: Twin> Twin for ValidateRequestHeader<S, T> {
     }
 }
 
-/// Abandons the body of a request that was refused, and gives the future that says so. The one error is want
-/// of memory, and then the body of the refusal is abandoned too.
+/// Abandons the body of a request that was refused, and gives the future that says so. After an error the body
+/// of the refusal is abandoned too.
 fn refuse<F, B, C, X, L>(
     req: Request<B, X>,
     refusal: Response<C, X>,
@@ -104,18 +102,13 @@ where
     L: Recorder,
     requires request { B.may req.body }
     requires refusal { C.may refusal.body }
-    ensures refused { RefusedBy B.abandons C.abandons req.body refusal (L.recorded cx.old.rec.now) (moment_of cx.old) result (L.recorded cx.new.rec.now) }
+    ensures refused { RefusedBy B.abandons C.abandons req.body refusal (L.recorded cx.old.rec.now)
+        (moment_of cx.old) result (L.recorded cx.new.rec.now) }
     ensures context { SameContext L.place cx.old cx.new }
 {
     let (head, body) = req.into_parts();
     drop(head);
-    let mut inner = Cx {
-        now: cx.now,
-        span: cx.span,
-        alloc: cx.alloc,
-        rec: &mut *cx.rec,
-    };
-    match body.abandon(&mut inner) {
+    match body.abandon(cx) {
         Ok(()) => Ok(ResponseFuture::invalid_header_value(refusal)),
         Err(no_memory) => {
             let (head, body) = refusal.into_parts();
@@ -141,11 +134,12 @@ where
 
     type Future = ResponseFuture<S::Future, C, X>;
 
-    ghost use Rattle.life_gate.specs.Gate.{GateMay, GateReadies, GateCalls};
+    ghost use Rattle.life_core.specs.Calls.{Forwards};
+    ghost use Rattle.life_gate.specs.Gate.{GateMay, GateCalls};
 
     ghost may = { GateMay S.may T.may T.validates B.may C.may };
 
-    ghost readies = { GateReadies S.readies };
+    ghost readies = { Forwards (λ s. s.inner) (λ s inner. record s { inner = inner }) S.readies };
 
     ghost calls = { GateCalls S.calls T.validates B.abandons C.abandons };
 
@@ -160,10 +154,7 @@ where
     ) -> Got<ResponseFuture<S::Future, C, X>> {
         let mut req = req;
         match self.validate.validate(cx.alloc, &mut req) {
-            Ok(Ok(())) => match self.inner.call(req, cx) {
-                Ok(inner) => Ok(ResponseFuture::future(inner)),
-                Err(no_memory) => Err(no_memory),
-            },
+            Ok(Ok(())) => Ok(ResponseFuture::future(self.inner.call(req, cx)?)),
             Ok(Err(refusal)) => refuse(req, refusal, cx),
             Err(_) => Err(abandon_request(req, cx)),
         }

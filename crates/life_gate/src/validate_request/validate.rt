@@ -36,7 +36,8 @@ where
     // The closure may always be called.
     ghost may = { λ hook. F.IsAlwaysCallable hook.closure };
 
-    ghost validates = { λ hook request answer after left. ClosureValidates F.FnMut hook.closure request answer after.closure left };
+    ghost validates = { λ hook request answer after left.
+        ClosureValidates F.FnMut hook.closure request answer after.closure left };
 
     fn validate(
         &mut self,

@@ -10,7 +10,7 @@ use std::alloc::Global;
 pub struct RequestId(HeaderValue);
 
 impl RequestId {
-    ghost use Rattle.life_head.specs.Ids.{id_of, value_of};
+    ghost use Rattle.life_head.specs.Ids.{id_of, id_value};
 
     /// The id of this value.
     pub fn new(header_value: HeaderValue) -> RequestId
@@ -21,14 +21,14 @@ impl RequestId {
 
     /// Its value.
     pub fn header_value(&self) -> &HeaderValue
-        ensures { result.now ≡ value_of self.now }
+        ensures { result.now ≡ id_value self.now }
     {
         &self.0
     }
 
     /// Its value.
     pub fn into_header_value(self) -> HeaderValue
-        ensures { result ≡ value_of self }
+        ensures { result ≡ id_value self }
     {
         let RequestId(header_value) = self;
         header_value

@@ -39,9 +39,9 @@ impl PropagateRequestIdLayer {
 impl<S> Layer<S> for PropagateRequestIdLayer {
     type Service = PropagateRequestId<S>;
 
-    ghost use Rattle.life_head.specs.Propagating.{propagate_round};
+    ghost use Rattle.life_head.specs.Propagating.{propagate_service};
 
-    ghost round = { propagate_round };
+    ghost round = { λ layer inner. propagate_service inner layer.header_name };
 
     fn layer(&self, alloc: Global, inner: S) -> Got<PropagateRequestId<S>>
     where
@@ -70,8 +70,7 @@ pub struct PropagateRequestId<S> {
 impl<S> PropagateRequestId<S> {
     ghost use Rattle.std.specs.Borrow.{sem};
     ghost use Rattle.life_head.specs.Ids.{x_request_id_name};
-    ghost use Rattle.life_head.specs.Propagating.{propagate_layer, propagate_service, propagate_inner};
-    ghost use Rattle.life_head.specs.Lending.{LendsPropagateInner};
+    ghost use Rattle.life_head.specs.Propagating.{propagate_layer, propagate_service, LendsPropagateInner};
 
     /// The service with ids under this name.
     pub fn new(inner: S, header_name: HeaderName) -> PropagateRequestId<S>
@@ -97,7 +96,7 @@ impl<S> PropagateRequestId<S> {
 
     /// The inner service.
     pub fn get_ref(&self) -> &S
-        ensures { result.now ≡ propagate_inner self.now }
+        ensures { result.now ≡ self.now.inner }
     {
         &self.inner
     }
@@ -105,14 +104,14 @@ impl<S> PropagateRequestId<S> {
     /// The inner service, to be changed.
     pub fn get_mut(&mut self) -> &mut S
         ensures* writes_back { sem 𝓛 (LendsPropagateInner S.row self.entry result) }
-        ensures value { result.now ≡ propagate_inner self.old }
+        ensures value { result.now ≡ self.old.inner }
     {
         &mut self.inner
     }
 
     /// The inner service.
     pub fn into_inner(self) -> S
-        ensures { result ≡ propagate_inner self }
+        ensures { result ≡ self.inner }
     {
         let PropagateRequestId {
             inner,
@@ -144,11 +143,12 @@ where
 
     type Future = PropagateRequestIdResponseFuture<S::Future>;
 
-    ghost use Rattle.life_head.specs.Propagating.{PropagateMay, PropagateReadies, PropagateCalls};
+    ghost use Rattle.life_core.specs.Calls.{Forwards};
+    ghost use Rattle.life_head.specs.Propagating.{PropagateCalls};
 
-    ghost may = { PropagateMay S.may };
+    ghost may = { λ s. S.may s.inner };
 
-    ghost readies = { PropagateReadies S.readies };
+    ghost readies = { Forwards (λ s. s.inner) (λ s inner. record s { inner = inner }) S.readies };
 
     ghost calls = { PropagateCalls S.calls B.abandons };
 
@@ -167,9 +167,7 @@ where
         let Ok(header_name) = self.header_name.twin(cx.alloc) else {
             return Err(abandon_request(req, cx));
         };
-        match self.inner.call(req, cx) {
-            Ok(inner) => Ok(PropagateRequestIdResponseFuture::new(inner, header_name, kept)),
-            Err(no_memory) => Err(no_memory),
-        }
+        let inner = self.inner.call(req, cx)?;
+        Ok(PropagateRequestIdResponseFuture::new(inner, header_name, kept))
     }
 }

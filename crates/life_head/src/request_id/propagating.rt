@@ -44,25 +44,20 @@ fn mark<X: Slot<RequestId>>(
 ) -> Got<()>
     ensures { OnOk result (head.new ≡ marked X.holds X.after name.now kept head.old) }
 {
-    match first_value(&head.parts.headers, name) {
-        Ok(Some(value)) => {
-            adopt(&mut head.ext, value);
-            Ok(())
-        }
-        Ok(None) => match kept {
-            Some(value) => give(alloc, &mut head.parts.headers, &mut head.ext, name, value),
-            None => Ok(()),
-        },
-        Err(no_memory) => Err(no_memory),
+    if let Some(value) = first_value(&head.parts.headers, name)? {
+        adopt(&mut head.ext, value);
+        return Ok(());
+    }
+    match kept {
+        Some(value) => give(alloc, &mut head.parts.headers, &mut head.ext, name, value),
+        None => Ok(()),
     }
 }
 
 impl<F: Spend<L>, L: Recorder> Spend<L> for PropagateRequestIdResponseFuture<F> {
-    ghost use Rattle.life_head.specs.Propagating.{PropagateFutureMay, PropagateAbandons};
+    ghost may = { λ f. F.may f.inner };
 
-    ghost may = { PropagateFutureMay F.may };
-
-    ghost abandons = { PropagateAbandons F.abandons };
+    ghost abandons = { λ f. F.abandons f.inner };
 
     fn abandon(self, cx: &mut Cx<'_, L>) -> Got<()> {
         let PropagateRequestIdResponseFuture {
@@ -83,21 +78,15 @@ where
 {
     type Output = Result<Response<B, X>, E>;
 
-    ghost use Rattle.life_head.specs.Propagating.{PropagateFutureMay, PropagatePolls};
+    ghost use Rattle.life_head.specs.Propagating.{PropagatePolls};
 
-    ghost live = { PropagateFutureMay F.live };
+    ghost live = { λ f. F.live f.inner };
 
     ghost polls = { PropagatePolls F.polls B.abandons X.holds X.after };
 
     fn poll(&mut self, cx: &mut Cx<'_, L>) -> Got<Poll<Result<Response<B, X>, E>>> {
-        let mut asking = Cx {
-            now: cx.now,
-            span: cx.span,
-            alloc: cx.alloc,
-            rec: &mut *cx.rec,
-        };
-        match self.inner.poll(&mut asking) {
-            Ok(Poll::Ready(Ok(Response { mut head, body }))) => {
+        match self.inner.poll(cx)? {
+            Poll::Ready(Ok(Response { mut head, body })) => {
                 match mark(cx.alloc, &self.header_name, self.kept.take(), &mut head) {
                     Ok(()) => Ok(Poll::Ready(Ok(Response { head, body }))),
                     Err(no_memory) => {
@@ -106,9 +95,8 @@ where
                     }
                 }
             }
-            Ok(Poll::Ready(Err(error))) => Ok(Poll::Ready(Err(error))),
-            Ok(Poll::Pending) => Ok(Poll::Pending),
-            Err(no_memory) => Err(no_memory),
+            Poll::Ready(Err(error)) => Ok(Poll::Ready(Err(error))),
+            Poll::Pending => Ok(Poll::Pending),
         }
     }
 }

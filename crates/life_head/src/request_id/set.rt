@@ -44,9 +44,9 @@ impl<M> SetRequestIdLayer<M> {
 impl<S, M: Twin> Layer<S> for SetRequestIdLayer<M> {
     type Service = SetRequestId<S, M>;
 
-    ghost use Rattle.life_head.specs.Setting.{set_round};
+    ghost use Rattle.life_head.specs.Setting.{set_service};
 
-    ghost round = { set_round };
+    ghost round = { λ layer inner. set_service inner layer.header_name layer.make_request_id };
 
     fn layer(&self, alloc: Global, inner: S) -> Got<SetRequestId<S, M>>
     where
@@ -78,8 +78,7 @@ pub struct SetRequestId<S, M> {
 impl<S, M> SetRequestId<S, M> {
     ghost use Rattle.std.specs.Borrow.{sem};
     ghost use Rattle.life_head.specs.Ids.{x_request_id_name};
-    ghost use Rattle.life_head.specs.Setting.{set_layer, set_service, set_inner};
-    ghost use Rattle.life_head.specs.Lending.{LendsSetInner};
+    ghost use Rattle.life_head.specs.Setting.{set_layer, set_service, LendsSetInner};
 
     /// The service with ids under this name, from this maker.
     pub fn new(inner: S, header_name: HeaderName, make_request_id: M) -> SetRequestId<S, M>
@@ -109,7 +108,7 @@ impl<S, M> SetRequestId<S, M> {
 
     /// The inner service.
     pub fn get_ref(&self) -> &S
-        ensures { result.now ≡ set_inner self.now }
+        ensures { result.now ≡ self.now.inner }
     {
         &self.inner
     }
@@ -117,7 +116,7 @@ impl<S, M> SetRequestId<S, M> {
     /// The inner service, to be changed.
     pub fn get_mut(&mut self) -> &mut S
         ensures* writes_back { sem 𝓛 (LendsSetInner S.row M.row self.entry result) }
-        ensures value { result.now ≡ set_inner self.old }
+        ensures value { result.now ≡ self.old.inner }
     {
         &mut self.inner
     }
@@ -126,7 +125,7 @@ impl<S, M> SetRequestId<S, M> {
     pub fn into_inner(self) -> S
     where
         M: Drop,
-        ensures { result ≡ set_inner self }
+        ensures { result ≡ self.inner }
     {
         let SetRequestId {
             inner,
@@ -157,27 +156,24 @@ where
     M: MakeRequestId<B, X>,
     X: Slot<RequestId>,
     requires { M.may maker.old }
-    ensures tags { Tags M.makes X.holds X.after name.now maker.old request.old result maker.new request.new }
+    ensures tags { Tags M.makes X.holds X.after name.now maker.old request.old
+        result maker.new request.new }
     ensures body { request.new.body ≡ request.old.body }
     ensures may { M.may maker.new }
 {
-    match first_value(&request.head.parts.headers, name) {
-        Ok(Some(value)) => {
-            adopt(&mut request.head.ext, value);
-            Ok(())
-        }
-        Ok(None) => match maker.make_request_id(alloc, &*request) {
-            Ok(Some(id)) => give(
-                alloc,
-                &mut request.head.parts.headers,
-                &mut request.head.ext,
-                name,
-                id.into_header_value(),
-            ),
-            Ok(None) => Ok(()),
-            Err(no_memory) => Err(no_memory),
-        },
-        Err(no_memory) => Err(no_memory),
+    if let Some(value) = first_value(&request.head.parts.headers, name)? {
+        adopt(&mut request.head.ext, value);
+        return Ok(());
+    }
+    match maker.make_request_id(alloc, &*request)? {
+        Some(id) => give(
+            alloc,
+            &mut request.head.parts.headers,
+            &mut request.head.ext,
+            name,
+            id.into_header_value(),
+        ),
+        None => Ok(()),
     }
 }
 
@@ -195,11 +191,12 @@ where
 
     type Future = S::Future;
 
-    ghost use Rattle.life_head.specs.Setting.{SetMay, SetReadies, SetCalls};
+    ghost use Rattle.life_core.specs.Calls.{Forwards};
+    ghost use Rattle.life_head.specs.Setting.{SetMay, SetCalls};
 
     ghost may = { SetMay S.may M.may };
 
-    ghost readies = { SetReadies S.readies };
+    ghost readies = { Forwards (λ s. s.inner) (λ s inner. record s { inner = inner }) S.readies };
 
     ghost calls = { SetCalls S.calls M.makes X.holds X.after B.abandons };
 

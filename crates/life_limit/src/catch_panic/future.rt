@@ -2,7 +2,7 @@
 ghost use Rattle.std.specs.Prelude.{◌≡◌, None, Some, IfOk};
 ghost use Rattle.life_core.specs.UnsyncBoxBody.{BoxMay};
 ghost use Rattle.life_core.specs.Moment.{moment_of, SameContext};
-ghost use Rattle.life_limit.specs.Catch.{watching, telling, HandlerGives};
+ghost use Rattle.life_limit.specs.Catch.{CatchKindMay, CatchKindAbandons, watching, panicked_future, HandlerGives};
 
 use crate::catch_panic::handler::ResponseForPanic;
 use life_core::{
@@ -34,8 +34,8 @@ impl<F, T> ResponseFuture<F, T> {
     }
 
     /// A future that tells of a panic before the call.
-    pub(crate) fn telling(text: Option<PanicText>, handler: T) -> ResponseFuture<F, T>
-        ensures { result ≡ telling text handler }
+    pub(crate) fn panicked(text: Option<PanicText>, handler: T) -> ResponseFuture<F, T>
+        ensures { result ≡ panicked_future text handler }
     {
         ResponseFuture {
             kind: Kind::Panicked(text),
@@ -55,7 +55,8 @@ where
     T: ResponseForPanic<X, L>,
     B: Spend<L>,
     requires { T.may handler.old }
-    ensures gives { HandlerGives T.handles handler.old text (L.recorded cx.old.rec.now) result handler.new (L.recorded cx.new.rec.now) }
+    ensures gives { HandlerGives T.handles handler.old text (L.recorded cx.old.rec.now) result
+        handler.new (L.recorded cx.new.rec.now) }
     ensures may { T.may handler.new }
     ensures body { IfOk result (λ response. BoxMay B.may T.ResponseBody.may response.body) }
     ensures context { SameContext L.place cx.old cx.new }
@@ -66,11 +67,9 @@ where
 }
 
 impl<F: Spend<L>, T: Drop, L: Recorder> Spend<L> for ResponseFuture<F, T> {
-    ghost use Rattle.life_limit.specs.Catch.{CatchFutureMay, CatchAbandons};
+    ghost may = { λ f. CatchKindMay F.may f.kind };
 
-    ghost may = { CatchFutureMay F.may };
-
-    ghost abandons = { CatchAbandons F.abandons };
+    ghost abandons = { λ f. CatchKindAbandons F.abandons f.kind };
 
     fn abandon(self, cx: &mut Cx<'_, L>) -> Got<()> {
         let ResponseFuture {

@@ -31,7 +31,8 @@ pub trait ResponseForPanic<X, L: Recorder>: Drop {
         rec: &mut L,
     ) -> Got<Response<Self::ResponseBody, X>>
         requires { may self.old }
-        ensures handles { handles self.old err (L.recorded rec.old) result self.new (L.recorded rec.new) }
+        ensures handles { handles self.old err (L.recorded rec.old) result self.new
+            (L.recorded rec.new) }
         ensures may { may self.new }
         ensures body { IfOk result (λ response. Self.ResponseBody.may response.body) }
         ensures place { L.place rec.new ≡ L.place rec.old };
@@ -68,20 +69,13 @@ impl<X: Default + Drop, L: Recorder> ResponseForPanic<X, L> for DefaultResponseF
         err: PanicText,
         rec: &mut L,
     ) -> Got<Response<Full, X>> {
-        let noted = rec.note(Event::Panic {
+        rec.note(Event::Panic {
             level: Level::Error,
             text: err,
-        });
-        match noted {
-            Ok(()) => match ResponseHead::text(alloc, StatusCode::INTERNAL_SERVER_ERROR) {
-                Ok(head) => {
-                    let body = Full::new(Bytes::from_static(b"Service panicked"));
-                    Ok(Response::from_parts(head, body))
-                }
-                Err(no_memory) => Err(no_memory),
-            },
-            Err(no_memory) => Err(no_memory),
-        }
+        })?;
+        let head = ResponseHead::text(alloc, StatusCode::INTERNAL_SERVER_ERROR)?;
+        let body = Full::new(Bytes::from_static(b"Service panicked"));
+        Ok(Response::from_parts(head, body))
     }
 }
 
@@ -96,10 +90,13 @@ where
     // The closure may always be called, leaves the references of the recorder, and gives bodies that may be
     // called.
     ghost may = { λ hook. F.IsAlwaysCallable hook.closure
-        × ((before after : F) (alloc : _) (text : PanicText) (rec : MutBor L) (answer : Result (Response P X) NoMemory) (left : MutBor L)
-        → F.step before alloc text rec answer left after → (L.place left.now ≡ L.place rec.now) × IfOk answer (λ response. P.may response.body)) };
+        × ((before after : F) (alloc : _) (text : PanicText) (rec : MutBor L)
+        (answer : Result (Response P X) NoMemory) (left : MutBor L)
+        → F.step before alloc text rec answer left after → (L.place left.now ≡ L.place rec.now)
+        × IfOk answer (λ response. P.may response.body)) };
 
-    ghost handles = { λ hook text was answer after now. ClosureHandles F.FnMut L.recorded hook.closure text was answer after.closure now };
+    ghost handles = { λ hook text was answer after now.
+        ClosureHandles F.FnMut L.recorded hook.closure text was answer after.closure now };
 
     fn response_for_panic(
         &mut self,

@@ -47,9 +47,9 @@ impl<T> CatchPanicLayer<T> {
 impl<S, T: Twin> Layer<S> for CatchPanicLayer<T> {
     type Service = CatchPanic<S, T>;
 
-    ghost use Rattle.life_limit.specs.Catch.{catch_round};
+    ghost use Rattle.life_limit.specs.Catch.{catch_service};
 
-    ghost round = { catch_round };
+    ghost round = { λ layer inner. catch_service inner layer.panic_handler };
 
     fn layer(&self, alloc: Global, inner: S) -> Got<CatchPanic<S, T>>
     where

@@ -1,7 +1,7 @@
 //! Answers for the panics of an inner service.
 ghost use Rattle.std.specs.Prelude.{◌≡◌};
 ghost use Rattle.life_core.specs.Moment.{moment_of, SameContext};
-ghost use Rattle.life_limit.specs.Catch.{TellsBy};
+ghost use Rattle.life_limit.specs.Catch.{PanickedBy};
 
 use crate::catch_panic::future::ResponseFuture;
 use crate::catch_panic::handler::{DefaultResponseForPanic, ResponseForPanic};
@@ -34,8 +34,7 @@ impl<S> CatchPanic<S, DefaultResponseForPanic> {
 
 impl<S, T> CatchPanic<S, T> {
     ghost use Rattle.std.specs.Borrow.{sem};
-    ghost use Rattle.life_limit.specs.Catch.{catch_service, catch_inner};
-    ghost use Rattle.life_limit.specs.Lending.{LendsCatchInner};
+    ghost use Rattle.life_limit.specs.Catch.{catch_service, LendsCatchInner};
 
     /// The service with this handler.
     pub fn custom(inner: S, panic_handler: T) -> CatchPanic<S, T>
@@ -50,7 +49,7 @@ impl<S, T> CatchPanic<S, T> {
 
     /// The inner service.
     pub fn get_ref(&self) -> &S
-        ensures { result.now ≡ catch_inner self.now }
+        ensures { result.now ≡ self.now.inner }
     {
         &self.inner
     }
@@ -58,7 +57,7 @@ impl<S, T> CatchPanic<S, T> {
     /// The inner service, to be changed.
     pub fn get_mut(&mut self) -> &mut S
         ensures* writes_back { sem 𝓛 (LendsCatchInner S.row T.row self.entry result) }
-        ensures value { result.now ≡ catch_inner self.old }
+        ensures value { result.now ≡ self.old.inner }
     {
         &mut self.inner
     }
@@ -67,7 +66,7 @@ impl<S, T> CatchPanic<S, T> {
     pub fn into_inner(self) -> S
     where
         T: Drop,
-        ensures { result ≡ catch_inner self }
+        ensures { result ≡ self.inner }
     {
         let CatchPanic {
             inner,
@@ -94,9 +93,9 @@ impl<S: Twin + Drop, T: Twin + Drop> Twin for CatchPanic<S, T> {
     }
 }
 
-/// Abandons the body of a request that a panic answers, and gives the future that tells the text that was
-/// kept. The one error is want of memory, and then the text stays kept.
-fn tell<F, T, B, X, L>(
+/// Abandons the body of a request that a panic answers, and gives the future with the text that was kept.
+/// An error leaves the text kept.
+fn answer_panic<F, T, B, X, L>(
     kept: &mut Option<PanicText>,
     handler: T,
     req: Request<B, X>,
@@ -108,12 +107,13 @@ where
     X: Drop,
     L: Recorder,
     requires { B.may req.body }
-    ensures told { TellsBy B.abandons req.body (L.recorded cx.old.rec.now) (moment_of cx.old) kept.old handler result kept.new (L.recorded cx.new.rec.now) }
+    ensures answered { PanickedBy B.abandons req.body (L.recorded cx.old.rec.now) (moment_of cx.old)
+        kept.old handler result kept.new (L.recorded cx.new.rec.now) }
     ensures context { SameContext L.place cx.old cx.new }
 {
     let Request { head: _, body } = req;
     body.abandon(cx)?;
-    Ok(ResponseFuture::telling(kept.take(), handler))
+    Ok(ResponseFuture::panicked(kept.take(), handler))
 }
 
 impl<S, T, Q, B, X, E, L> Service<Request<Q, X>, L> for CatchPanic<S, T>
@@ -160,14 +160,8 @@ where
             return Err(abandon_request(req, cx));
         };
         if self.kept.is_some() {
-            return match tell(&mut self.kept, handler, req, cx) {
-                Ok(future) => Ok(future),
-                Err(no_memory) => Err(no_memory),
-            };
+            return answer_panic(&mut self.kept, handler, req, cx);
         }
-        match self.inner.call(req, cx) {
-            Ok(inner) => Ok(ResponseFuture::watching(inner, handler)),
-            Err(no_memory) => Err(no_memory),
-        }
+        Ok(ResponseFuture::watching(self.inner.call(req, cx)?, handler))
     }
 }

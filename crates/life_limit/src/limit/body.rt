@@ -1,6 +1,6 @@
 //! The bodies of `RequestBodyLimit`'s responses.
 ghost use Rattle.std.specs.Prelude.{IfOk};
-ghost use Rattle.life_limit.specs.LimitBody.{IsDefaultBody, LimitBodyMay, LimitBodyAbandons, LimitBodyFrames, limit_body_ends, limit_body_hints, default_may_by};
+ghost use Rattle.life_limit.specs.LimitBody.{IsDefaultLimitBody, LimitBodyMay, LimitBodyAbandons, LimitBodyFrames, limit_body_ends, limit_body_hints, default_may_by};
 ghost use Rattle.life_limit.specs.Limit.{IsTooLarge};
 
 use bytes::Bytes;
@@ -11,12 +11,14 @@ use std::alloc::Global;
 
 /// The body of the inner response, or the text of a refusal. It forwards all calls.
 pub enum ResponseBody<B> {
+    /// The text of a refusal.
     PayloadTooLarge(Full),
+    /// The inner body.
     Body(B),
 }
 
 impl<B: Default> Default for ResponseBody<B> {
-    ghost is_default = { IsDefaultBody B.is_default };
+    ghost is_default = { IsDefaultLimitBody B.is_default };
 
     fn default() -> ResponseBody<B> {
         ResponseBody::Body(B::default())

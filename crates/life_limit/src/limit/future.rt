@@ -1,6 +1,6 @@
 //! The future of `RequestBodyLimit`.
 ghost use Rattle.std.specs.Prelude.{◌≡◌};
-ghost use Rattle.life_limit.specs.Limit.{future_over, too_large_future};
+ghost use Rattle.life_limit.specs.Limit.{LimitKindMay, LimitKindAbandons, future_over, too_large_future};
 
 use crate::limit::body::{ResponseBody, create_error_response};
 use bytes::Bytes;
@@ -39,11 +39,9 @@ impl<F> ResponseFuture<F> {
 }
 
 impl<F: Spend<L>, L: Recorder> Spend<L> for ResponseFuture<F> {
-    ghost use Rattle.life_limit.specs.Limit.{LimitFutureMay, LimitAbandons};
+    ghost may = { λ f. LimitKindMay F.may f.kind };
 
-    ghost may = { LimitFutureMay F.may };
-
-    ghost abandons = { LimitAbandons F.abandons };
+    ghost abandons = { λ f. LimitKindAbandons F.abandons f.kind };
 
     fn abandon(self, cx: &mut Cx<'_, L>) -> Got<()> {
         let ResponseFuture { kind } = self;
@@ -63,9 +61,9 @@ where
 {
     type Output = Result<Response<ResponseBody<B>, X>, E>;
 
-    ghost use Rattle.life_limit.specs.Limit.{LimitFutureMay, LimitPolls};
+    ghost use Rattle.life_limit.specs.Limit.{LimitPolls};
 
-    ghost live = { LimitFutureMay F.live };
+    ghost live = { λ f. LimitKindMay F.live f.kind };
 
     ghost polls = { LimitPolls F.polls X.is_default };
 

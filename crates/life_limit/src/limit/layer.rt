@@ -25,9 +25,9 @@ impl RequestBodyLimitLayer {
 impl<S> Layer<S> for RequestBodyLimitLayer {
     type Service = RequestBodyLimit<S>;
 
-    ghost use Rattle.life_limit.specs.Limit.{limit_round};
+    ghost use Rattle.life_limit.specs.Limit.{limit_service};
 
-    ghost round = { limit_round };
+    ghost round = { λ layer inner. limit_service inner layer.limit };
 
     fn layer(&self, _alloc: Global, inner: S) -> Got<RequestBodyLimit<S>>
     where

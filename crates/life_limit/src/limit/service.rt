@@ -1,7 +1,7 @@
 //! Refuses requests that tell a body above the limit, and bounds the bodies of the others.
 ghost use Rattle.std.specs.Prelude.{◌≡◌};
 ghost use Rattle.life_core.specs.Moment.{moment_of, SameContext};
-ghost use Rattle.life_limit.specs.Limit.{RefusedBy};
+ghost use Rattle.life_limit.specs.Limit.{LimitRefusedBy};
 
 use crate::limit::body::ResponseBody;
 use crate::limit::future::ResponseFuture;
@@ -21,8 +21,7 @@ pub struct RequestBodyLimit<S> {
 
 impl<S> RequestBodyLimit<S> {
     ghost use Rattle.std.specs.Borrow.{sem};
-    ghost use Rattle.life_limit.specs.Limit.{limit_layer, limit_service, limit_inner};
-    ghost use Rattle.life_limit.specs.Lending.{LendsLimitInner};
+    ghost use Rattle.life_limit.specs.Limit.{limit_layer, limit_service, LendsLimitInner};
 
     /// The service with request bodies of at most `limit` bytes.
     pub fn new(inner: S, limit: u64) -> RequestBodyLimit<S>
@@ -40,7 +39,7 @@ impl<S> RequestBodyLimit<S> {
 
     /// The inner service.
     pub fn get_ref(&self) -> &S
-        ensures { result.now ≡ limit_inner self.now }
+        ensures { result.now ≡ self.now.inner }
     {
         &self.inner
     }
@@ -48,14 +47,14 @@ impl<S> RequestBodyLimit<S> {
     /// The inner service, to be changed.
     pub fn get_mut(&mut self) -> &mut S
         ensures* writes_back { sem 𝓛 (LendsLimitInner S.row self.entry result) }
-        ensures value { result.now ≡ limit_inner self.old }
+        ensures value { result.now ≡ self.old.inner }
     {
         &mut self.inner
     }
 
     /// The inner service.
     pub fn into_inner(self) -> S
-        ensures { result ≡ limit_inner self }
+        ensures { result ≡ self.inner }
     {
         let RequestBodyLimit { inner, limit: _ } = self;
         inner
@@ -76,7 +75,8 @@ where
     X: Drop,
     L: Recorder,
     requires { B.may req.body }
-    ensures refused { RefusedBy B.abandons req.body (L.recorded cx.old.rec.now) (moment_of cx.old) result (L.recorded cx.new.rec.now) }
+    ensures refused { LimitRefusedBy B.abandons req.body (L.recorded cx.old.rec.now)
+        (moment_of cx.old) result (L.recorded cx.new.rec.now) }
     ensures context { SameContext L.place cx.old cx.new }
 {
     let Request { head: _, body } = req;
@@ -98,11 +98,12 @@ where
 
     type Future = ResponseFuture<S::Future>;
 
-    ghost use Rattle.life_limit.specs.Limit.{LimitMay, LimitReadies, LimitCalls};
+    ghost use Rattle.life_core.specs.Calls.{Forwards};
+    ghost use Rattle.life_limit.specs.Limit.{LimitCalls};
 
-    ghost may = { LimitMay S.may };
+    ghost may = { λ s. S.may s.inner };
 
-    ghost readies = { LimitReadies S.readies };
+    ghost readies = { Forwards (λ s. s.inner) (λ s inner. record s { inner = inner }) S.readies };
 
     ghost calls = { LimitCalls S.calls B.abandons };
 
@@ -117,12 +118,7 @@ where
             None => self.limit,
         };
         let (head, body) = req.into_parts();
-        match self
-            .inner
-            .call(Request::from_parts(head, Limited::new(body, room)), cx)
-        {
-            Ok(inner) => Ok(ResponseFuture::new(inner)),
-            Err(no_memory) => Err(no_memory),
-        }
+        let limited = Request::from_parts(head, Limited::new(body, room));
+        Ok(ResponseFuture::new(self.inner.call(limited, cx)?))
     }
 }

@@ -1,7 +1,7 @@
 //! What stands at the keys of an object.
 ghost use Rattle.std.specs.Prelude.{◌≡◌, codes, map, option_map};
 ghost use Rattle.serde_json.specs.View.{view};
-ghost use Rattle.life_script.specs.Reading.{has, number_at, string_at, status_at, asks_at, is_null_at, items_in, items_at, is_string};
+ghost use Rattle.life_script.specs.Reading.{has_key, number_at, string_at, status_at, asks_at, is_null_at, items_in, items_at, is_string};
 
 use http::StatusCode;
 use serde_json::Value;
@@ -11,7 +11,7 @@ const MAX_ASKS: u8 = 16;
 
 /// Whether an object has this key.
 pub fn has(value: &Value, key: &str) -> bool
-    ensures { result ≡ has key.now (view value.now) }
+    ensures { result ≡ has_key key.now (view value.now) }
 {
     value.get(key).is_some()
 }

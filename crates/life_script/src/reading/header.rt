@@ -1,7 +1,7 @@
 //! What is read of header fields.
 ghost use Rattle.std.specs.Prelude.{◌≡◌, IfOk, IfErr, map};
 ghost use Rattle.serde_json.specs.View.{view};
-ghost use Rattle.life_script.specs.Reading.{Bad, built, name_of, value_of, pair_part, header_part};
+ghost use Rattle.life_script.specs.Reading.{Bad, if_built, as_name, as_value, pair_part, header_part};
 
 use crate::error::ReadError;
 use crate::reading::fields::items_in;
@@ -13,8 +13,8 @@ use std::alloc::Global;
 
 /// The header name that a text is, or none where it is no name.
 pub fn read_name(alloc: Global, text: &str) -> Result<Option<HeaderName>, ReadError>
-    ensures ok { IfOk result (λ name. name ≡ name_of text.now) }
-    ensures err { IfErr result (λ e. e ≡ ReadError.NoMemory) }
+    ensures ok { IfOk result (λ name. name ≡ as_name text.now) }
+    ensures err { IfErr result (λ error. error ≡ ReadError.NoMemory) }
 {
     match HeaderName::from_bytes(alloc, text.as_bytes()) {
         Ok(name) => Ok(Some(name)),
@@ -25,8 +25,8 @@ pub fn read_name(alloc: Global, text: &str) -> Result<Option<HeaderName>, ReadEr
 
 /// The header value that a text is, or none where it is no value.
 fn read_value(alloc: Global, text: &str) -> Result<Option<HeaderValue>, ReadError>
-    ensures ok { IfOk result (λ value. value ≡ value_of text.now) }
-    ensures err { IfErr result (λ e. e ≡ ReadError.NoMemory) }
+    ensures ok { IfOk result (λ value. value ≡ as_value text.now) }
+    ensures err { IfErr result (λ error. error ≡ ReadError.NoMemory) }
 {
     match HeaderValue::from_bytes(alloc, text.as_bytes()) {
         Ok(value) => Ok(Some(value)),
@@ -37,7 +37,7 @@ fn read_value(alloc: Global, text: &str) -> Result<Option<HeaderValue>, ReadErro
 
 /// Reads a name and a value from the items of an array.
 fn read_pair(alloc: Global, items: &[Value]) -> Built<(HeaderName, HeaderValue)>
-    ensures ok { IfOk result (λ pair. pair_part (map view items.now) ≡ built pair) }
+    ensures ok { IfOk result (λ pair. pair_part (map view items.now) ≡ if_built pair) }
     ensures bad { result ≡ Err ReadError.BadScenario → pair_part (map view items.now) ≡ Bad }
     ensures never { ¬ (result ≡ Err ReadError.NotBuilt) }
 {

@@ -1,7 +1,7 @@
 //! What is read of the layers: their limits.
 ghost use Rattle.std.specs.Prelude.{◌≡◌, ℕ, IfOk, IfErr, List, Option};
 ghost use Rattle.serde_json.specs.View.{view};
-ghost use Rattle.life_script.specs.Reading.{Bad, built, gate_of, has_unbuilt_limit, limits_part, limits_with};
+ghost use Rattle.life_script.specs.Reading.{Bad, if_built, gate_of, has_unbuilt_limit, limits_part, limits_with};
 
 use crate::error::ReadError;
 use crate::reading::fields::{has, number_at, status_at, string_at};
@@ -15,7 +15,7 @@ use std::alloc::Global;
 
 /// Reads the limits.
 pub fn read_limits(alloc: Global, limits: &Value) -> Built<Limits>
-    ensures ok { IfOk result (λ l. limits_part (view limits.now) ≡ built l) }
+    ensures ok { IfOk result (λ found. limits_part (view limits.now) ≡ if_built found) }
     ensures bad { result ≡ Err ReadError.BadScenario → limits_part (view limits.now) ≡ Bad }
     ensures never { ¬ (result ≡ Err ReadError.NotBuilt) }
 {
@@ -42,8 +42,9 @@ fn has_unbuilt_limit(limits: &Value) -> bool
 /// The header that lets a request through and what its first value must be, or none where one of them is
 /// missing or is no name.
 fn read_gate(alloc: Global, limits: &Value) -> Result<Option<(HeaderName, Text)>, ReadError>
-    ensures ok { IfOk result (λ (gate : Option (List ℕ × List ℕ)). gate ≡ gate_of (view limits.now)) }
-    ensures err { IfErr result (λ e. e ≡ ReadError.NoMemory) }
+    ensures ok { IfOk result (λ (gate : Option (List ℕ × List ℕ)).
+        gate ≡ gate_of (view limits.now)) }
+    ensures err { IfErr result (λ error. error ≡ ReadError.NoMemory) }
 {
     let (Some(name), Some(value)) = (
         string_at(limits, "gate_name"),
@@ -54,10 +55,7 @@ fn read_gate(alloc: Global, limits: &Value) -> Result<Option<(HeaderName, Text)>
     let Some(name) = read_name(alloc, name)? else {
         return Ok(None);
     };
-    match Text::copy(alloc, value) {
-        Ok(value) => Ok(Some((name, value))),
-        Err(_) => Err(ReadError::NoMemory),
-    }
+    Ok(Some((name, Text::copy(alloc, value)?)))
 }
 
 /// How the layers are set, where the gate is set so.

@@ -1,13 +1,15 @@
 //! What is read of the service: the scripts of its requests.
-ghost use Rattle.std.specs.Prelude.{◌≡◌, IfOk, option_map};
+ghost use Rattle.std.specs.Prelude.{◌≡◌, IfOk};
 ghost use Rattle.serde_json.specs.View.{view};
-ghost use Rattle.life_script.specs.Reading.{Bad, built, headers_at, text_at, chunk_part, body_item_part, message_part, reply_part, panic_part, then_part, poll_item_part, call_part, service_part, has_unbuilt_request, script_part};
+ghost use Rattle.life_script.specs.Reading.{Bad, if_built, if_pair_built, headers_at, text_at, chunk_part, body_item_part, message_part, reply_part, panic_part, then_part, poll_item_part, call_part, service_part, has_unbuilt_request, script_part};
 
 use crate::error::ReadError;
 use crate::headers::HeaderList;
 use crate::reading::fields::{asks_at, has, is_null_at, is_string, status_at, string_at};
 use crate::reading::part::{Built, Part, read_all_at};
-use crate::scenario::{BodyItem, BodyItems, CallItem, PollItem, PollItems, Reply, Script, Then};
+use crate::scenario::{
+    BodyItem, BodyItems, CallItem, PollItem, PollItems, Reply, Script, Then, share_list,
+};
 use http::{HeaderName, HeaderValue};
 use life_core::{Octets, PanicText, Text};
 use serde_json::Value;
@@ -15,7 +17,7 @@ use std::alloc::Global;
 
 /// Reads header fields.
 fn read_headers_at(alloc: Global, value: &Value, key: &str) -> Built<HeaderList>
-    ensures ok { IfOk result (λ headers. headers_at key.now (view value.now) ≡ built headers) }
+    ensures ok { IfOk result (λ headers. headers_at key.now (view value.now) ≡ if_built headers) }
     ensures bad { result ≡ Err ReadError.BadScenario → headers_at key.now (view value.now) ≡ Bad }
     ensures never { ¬ (result ≡ Err ReadError.NotBuilt) }
 {
@@ -27,32 +29,27 @@ fn read_headers_at(alloc: Global, value: &Value, key: &str) -> Built<HeaderList>
 
 /// Reads a text.
 fn read_text_at(alloc: Global, value: &Value, key: &str) -> Built<Text>
-    ensures ok { IfOk result (λ text. text_at key.now (view value.now) ≡ built text) }
+    ensures ok { IfOk result (λ text. text_at key.now (view value.now) ≡ if_built text) }
     ensures bad { result ≡ Err ReadError.BadScenario → text_at key.now (view value.now) ≡ Bad }
     ensures never { ¬ (result ≡ Err ReadError.NotBuilt) }
 {
     let Some(text) = string_at(value, key) else {
         return Err(ReadError::BadScenario);
     };
-    match Text::copy(alloc, text) {
-        Ok(text) => Ok(Some(text)),
-        Err(_) => Err(ReadError::NoMemory),
-    }
+    Ok(Some(Text::copy(alloc, text)?))
 }
 
 /// Reads a chunk of a body.
 fn read_chunk(alloc: Global, value: &Value) -> Built<BodyItem>
-    ensures ok { IfOk result (λ item. chunk_part (view value.now) ≡ built item) }
+    ensures ok { IfOk result (λ item. chunk_part (view value.now) ≡ if_built item) }
     ensures bad { result ≡ Err ReadError.BadScenario → chunk_part (view value.now) ≡ Bad }
     ensures never { ¬ (result ≡ Err ReadError.NotBuilt) }
 {
     let Some(text) = string_at(value, "data") else {
         return Err(ReadError::BadScenario);
     };
-    match Octets::copy(alloc, text.as_bytes()) {
-        Ok(bytes) => Ok(Some(BodyItem::Chunk(bytes))),
-        Err(_) => Err(ReadError::NoMemory),
-    }
+    let bytes = Octets::copy(alloc, text.as_bytes())?;
+    Ok(Some(BodyItem::Chunk(bytes)))
 }
 
 impl Part for BodyItem {
@@ -80,7 +77,7 @@ impl Part for BodyItem {
 
 /// Reads the headers and the body of a request or a response.
 fn read_message(alloc: Global, value: &Value) -> Built<(HeaderList, BodyItems)>
-    ensures ok { IfOk result (λ message. message_part (view value.now) ≡ built (option_map (λ m. (m.0, m.1.items)) message)) }
+    ensures ok { IfOk result (λ message. message_part (view value.now) ≡ if_pair_built message) }
     ensures bad { result ≡ Err ReadError.BadScenario → message_part (view value.now) ≡ Bad }
     ensures never { ¬ (result ≡ Err ReadError.NotBuilt) }
 {
@@ -94,7 +91,7 @@ fn read_message(alloc: Global, value: &Value) -> Built<(HeaderList, BodyItems)>
 
 /// Reads a response.
 fn read_reply(alloc: Global, value: &Value) -> Built<Reply>
-    ensures ok { IfOk result (λ reply. reply_part (view value.now) ≡ built reply) }
+    ensures ok { IfOk result (λ reply. reply_part (view value.now) ≡ if_built reply) }
     ensures bad { result ≡ Err ReadError.BadScenario → reply_part (view value.now) ≡ Bad }
     ensures never { ¬ (result ≡ Err ReadError.NotBuilt) }
 {
@@ -108,7 +105,7 @@ fn read_reply(alloc: Global, value: &Value) -> Built<Reply>
         Some((headers, body)) => Ok(Some(Reply {
             status,
             headers,
-            body,
+            body: share_list(alloc, body)?,
             tells,
         })),
         None => Ok(None),
@@ -117,7 +114,7 @@ fn read_reply(alloc: Global, value: &Value) -> Built<Reply>
 
 /// Reads the text of a panic.
 fn read_panic(alloc: Global, value: &Value) -> Built<PanicText>
-    ensures ok { IfOk result (λ text. panic_part (view value.now) ≡ built text) }
+    ensures ok { IfOk result (λ text. panic_part (view value.now) ≡ if_built text) }
     ensures bad { result ≡ Err ReadError.BadScenario → panic_part (view value.now) ≡ Bad }
     ensures never { ¬ (result ≡ Err ReadError.NotBuilt) }
 {
@@ -132,7 +129,7 @@ fn read_panic(alloc: Global, value: &Value) -> Built<PanicText>
 
 /// Reads what is answered.
 fn read_then(alloc: Global, value: &Value) -> Built<Then>
-    ensures ok { IfOk result (λ answer. then_part (view value.now) ≡ built answer) }
+    ensures ok { IfOk result (λ answer. then_part (view value.now) ≡ if_built answer) }
     ensures bad { result ≡ Err ReadError.BadScenario → then_part (view value.now) ≡ Bad }
     ensures never { ¬ (result ≡ Err ReadError.NotBuilt) }
 {
@@ -179,7 +176,7 @@ impl Part for PollItem {
 
 /// Reads what is done at the call.
 fn read_call(alloc: Global, value: &Value) -> Built<CallItem>
-    ensures ok { IfOk result (λ call. call_part (view value.now) ≡ built call) }
+    ensures ok { IfOk result (λ call. call_part (view value.now) ≡ if_built call) }
     ensures bad { result ≡ Err ReadError.BadScenario → call_part (view value.now) ≡ Bad }
     ensures never { ¬ (result ≡ Err ReadError.NotBuilt) }
 {
@@ -194,7 +191,7 @@ fn read_call(alloc: Global, value: &Value) -> Built<CallItem>
 
 /// Reads what is done with a request: at the call, and poll by poll.
 fn read_service(alloc: Global, value: &Value) -> Built<(CallItem, PollItems)>
-    ensures ok { IfOk result (λ service. service_part (view value.now) ≡ built (option_map (λ s. (s.0, s.1.items)) service)) }
+    ensures ok { IfOk result (λ service. service_part (view value.now) ≡ if_pair_built service) }
     ensures bad { result ≡ Err ReadError.BadScenario → service_part (view value.now) ≡ Bad }
     ensures never { ¬ (result ≡ Err ReadError.NotBuilt) }
 {
@@ -225,9 +222,9 @@ impl Part for Script {
         match (message, service, has_unbuilt_request(value)) {
             (Some((headers, body)), Some((call, polls)), false) => Ok(Some(Script {
                 headers,
-                body,
+                body: share_list(alloc, body)?,
                 call,
-                polls,
+                polls: share_list(alloc, polls)?,
             })),
             _ => Ok(None),
         }

@@ -1,16 +1,16 @@
 //! The exchanges of a session, one for each request.
 ghost use Rattle.std.specs.Prelude.{◌≡◌, ℕ, ◌≤◌, ◌<◌, ◌+◌, [], List, length, slice_get, slice_set, Some, IfOk};
 ghost use Rattle.std.specs.List.{All, AllZip};
+ghost use Rattle.life_script.specs.Valid.{EachFits};
 ghost use Rattle.life_session.specs.Exchange.{IsFresh, MayGoOn};
-ghost use Rattle.life_session.specs.Session.{May, RunsOn, Tells};
+ghost use Rattle.life_session.specs.Session.{May, RunsOn, IsStoryOf};
+ghost use Rattle.life_session.specs.Table.{KeepsServing};
 
-use crate::exchange::live::Live;
-use crate::exchange::{Exchange, abandon_at, begin_exchange, idle_exchange, take_turn, tell};
+use crate::exchange::{Exchange, abandon_at, begin_exchange, finish_exchange, take_turn};
 use crate::table::Driven;
 use life_core::{Got, NoMemory};
 use life_script::{Script, Step, ToldList};
 use std::alloc::{AllocFailed, Global};
-use std::mem;
 
 /// Abandons all exchanges at a time; what that records is lost.
 pub(crate) fn abandon_all<D: Driven>(
@@ -53,23 +53,6 @@ pub(crate) fn begin_all<D: Driven>(
     Ok(exchanges)
 }
 
-/// Puts an exchange in a place where nothing is live.
-fn put<F, B>(exchanges: &mut Vec<Exchange<F, B>>, i: usize, exchange: Exchange<F, B>)
-    requires within { i < length exchanges.old.items }
-    requires over { (e : _) → slice_get exchanges.old.items i ≡ Some e → e.live ≡ Live.Over }
-    ensures { exchanges.new.items ≡ slice_set exchanges.old.items i exchange }
-{
-    let Exchange {
-        live,
-        log: _,
-        turns: _,
-    } = mem::replace(&mut exchanges[i], exchange);
-    match live {
-        Live::Over => (),
-        _ => unreachable!(),
-    }
-}
-
 /// Runs a step in the exchange of its request. Where it is refused for memory, what was live of that request
 /// was abandoned; a Drop is not refused.
 pub(crate) fn run_step<D: Driven>(
@@ -83,27 +66,23 @@ pub(crate) fn run_step<D: Driven>(
     requires may_stack { D.meaning.may stack.old }
     requires within { step.request < length exchanges.old.items }
     requires scripted { length exchanges.old.items ≡ length scripts.now }
-    requires room { (e : _) → slice_get exchanges.old.items step.request ≡ Some e → 1 ≤ e.turns.spare }
+    requires fits { EachFits scripts.now }
+    requires room { (e : _) → slice_get exchanges.old.items step.request ≡ Some e
+        → 1 ≤ e.turns.spare }
     ensures may { All (May D.meaning) exchanges.new.items }
     ensures may_stack { D.meaning.may stack.new }
-    ensures kept { (k : D.Key) → D.meaning.places.serves k stack.old → D.meaning.places.serves k stack.new }
-    ensures ran { RunsOn D.meaning stack.old step scripts.now exchanges.old.items result exchanges.new.items }
+    ensures kept { KeepsServing D.meaning stack.old stack.new }
+    ensures ran { RunsOn D.meaning stack.old step scripts.now exchanges.old.items result
+        exchanges.new.items }
 {
     let i = step.request as usize;
-    let exchange = mem::replace(&mut exchanges[i], idle_exchange(alloc));
     D::idles();
-    match take_turn::<D>(stack, &scripts[i], exchange, step, alloc) {
-        Ok(exchange) => {
-            put(exchanges, i, exchange);
-            Ok(())
-        }
-        Err(no_memory) => Err(no_memory),
-    }
+    take_turn::<D>(stack, &scripts[i], &mut exchanges[i], step, alloc)
 }
 
 /// What is told of each request, in order, where all steps were run and the end is at a time. The list has
 /// room for it, so it takes no memory.
-pub(crate) fn tell_all<D: Driven>(
+pub(crate) fn finish_exchanges<D: Driven>(
     exchanges: Vec<Exchange<D::Future, D::Body>>,
     end: u64,
     mut told: ToldList,
@@ -112,11 +91,11 @@ pub(crate) fn tell_all<D: Driven>(
     requires may { All (May D.meaning) exchanges.items }
     requires empty { told.items ≡ [] }
     requires room { length exchanges.items ≤ told.spare }
-    ensures { AllZip (Tells D.meaning end) exchanges.items result.items }
+    ensures { AllZip (IsStoryOf D.meaning end) exchanges.items result.items }
 {
     let mut rest = exchanges.into_iter();
     while let Some(exchange) = rest.next() {
-        told.put_back(tell::<D>(exchange, end, alloc));
+        told.put_back(finish_exchange::<D>(exchange, end, alloc));
     }
     rest.destroy_empty();
     told

@@ -1,22 +1,25 @@
 //! What is live of a request, and what one act does with it, over any stack that keeps a table.
-ghost use Rattle.std.specs.Prelude.{◌≡◌, ◌≤◌, ◌++◌, ℕ, List, Ok, Err, IfOk, IsOk};
-ghost use Rattle.life_core.specs.Fields.{fields};
+ghost use Rattle.std.specs.Prelude.{◌≡◌, List, Ok, Err, IfOk};
 ghost use Rattle.life_core.specs.Moment.{SameContext};
+ghost use Rattle.life_script.specs.Valid.{ScriptFits};
 ghost use Rattle.life_session.specs.Acts.{NotBefore, Own};
-ghost use Rattle.life_session.specs.Exchange.{Ended, HasRoom, IsIdle, LiveAt, MayGoOn, Shown};
+ghost use Rattle.life_session.specs.Exchange.{AbandonIsDone, ActOfServed, ActShown, CallOfServed, DropIsDone, EndShown, IfShown, IsIdle, LivesOn, MayGoOn};
+ghost use Rattle.life_session.specs.Table.{KeepsServing, response_told};
 
 use crate::exchange::seeing::seen_in;
 use crate::table::Driven;
 use life_core::{Cx, Fields, Got, NoMemory, Poll, Recorder, Response, ResponseHead};
 use life_script::{Act, Answer, Script};
-use std::alloc::Global;
+use std::alloc::{AllocFailed, Global};
 
-/// What a request has that must be spent.
+/// What a request has that must be spent. It is boxed, so that an exchange is small where it is moved.
 pub enum Live<F, B> {
     /// It was not called.
     Fresh,
-    Future(F),
-    Body(B),
+    /// Its future, which waits.
+    Future(Box<F>),
+    /// The body of its response.
+    Body(Box<B>),
     /// All was spent.
     Over,
 }
@@ -40,7 +43,7 @@ where
 
 /// What is told of a response whose body does or does not tell its end.
 fn response_answer<X>(alloc: Global, head: &ResponseHead<X>, ended: bool) -> Got<Answer>
-    ensures { IfOk result (λ a. a ≡ Answer.Response head.now.parts.status (fields head.now.parts.headers) ended) }
+    ensures { IfOk result (λ a. a ≡ response_told head.now ended) }
 {
     let headers = Fields::of(alloc, &head.parts.headers)?;
     Ok(Answer::Response {
@@ -50,10 +53,32 @@ fn response_answer<X>(alloc: Global, head: &ResponseHead<X>, ended: bool) -> Got
     })
 }
 
-/// A response, whose body is live from now on; `left` is how its future was abandoned.
+/// A body, which is live from now on, in a box.
+fn keep_body<S, L>(
+    body: S::Body,
+    answer: Answer,
+    cx: &mut Cx<'_, L>,
+) -> Got<(Live<S::Future, S::Body>, Answer)>
+where
+    L: Recorder,
+    S: Driven,
+    requires { S.meaning.body_may body }
+    ensures may { IfOk result (λ p. MayGoOn S.meaning p.0) }
+    ensures live { LivesOn S.meaning body result }
+    ensures answer { IfOk result (λ p. p.1 ≡ answer) }
+    ensures kept { IfOk result (λ p. L.recorded cx.new.rec.now ≡ L.recorded cx.old.rec.now) }
+    ensures context { SameContext L.place cx.old cx.new }
+{
+    match Box::new(cx.alloc, body) {
+        Ok(body) => Ok((Live::Body(body), answer)),
+        Err(AllocFailed { value }) => abandon_refused::<S, L>(value, NoMemory, cx),
+    }
+}
+
+/// A response, whose body is live from now on; `abandoned` is what abandoning its future answered.
 fn respond<S, L>(
     response: Response<S::Body, S::Ext>,
-    left: Got<()>,
+    abandoned: Got<()>,
     cx: &mut Cx<'_, L>,
 ) -> Got<(Live<S::Future, S::Body>, Answer)>
 where
@@ -61,16 +86,17 @@ where
     S: Driven,
     requires { S.meaning.body_may response.body }
     ensures may { IfOk result (λ p. MayGoOn S.meaning p.0) }
-    ensures left { IfOk result (λ p. left ≡ Ok tt) }
-    ensures live { IfOk result (λ p. p.0 ≡ Live.Body response.body) }
-    ensures answer { IfOk result (λ p. p.1 ≡ Answer.Response response.head.parts.status (fields response.head.parts.headers) (S.meaning.ends response.body)) }
+    ensures abandoned { IfOk result (λ p. abandoned ≡ Ok tt) }
+    ensures live { LivesOn S.meaning response.body result }
+    ensures answer { IfOk result (λ p.
+        p.1 ≡ response_told response.head (S.meaning.ends response.body)) }
     ensures kept { IfOk result (λ p. L.recorded cx.new.rec.now ≡ L.recorded cx.old.rec.now) }
     ensures context { SameContext L.place cx.old cx.new }
 {
     let (head, body) = response.into_parts();
     let ended = S::ends_at(&body);
-    match (left, response_answer(cx.alloc, &head, ended)) {
-        (Ok(()), Ok(answer)) => Ok((Live::Body(body), answer)),
+    match (abandoned, response_answer(cx.alloc, &head, ended)) {
+        (Ok(()), Ok(answer)) => keep_body::<S, L>(body, answer, cx),
         (Ok(()), Err(no_memory)) => abandon_refused::<S, L>(body, no_memory, cx),
         (Err(no_memory), _) => abandon_refused::<S, L>(body, no_memory, cx),
     }
@@ -78,32 +104,32 @@ where
 
 /// Polls a future, which is abandoned in the same act once it answered.
 fn poll_waiting<S, L>(
-    future: S::Future,
+    future: Box<S::Future>,
     cx: &mut Cx<'_, L>,
 ) -> Got<(Live<S::Future, S::Body>, Answer)>
 where
     L: Recorder,
     S: Driven,
-    requires live { S.meaning.future_live future }
-    requires may { S.meaning.future_may future }
+    requires live { S.meaning.future_live future.value }
+    requires may { S.meaning.future_may future.value }
     ensures may { IfOk result (λ p. MayGoOn S.meaning p.0) }
-    ensures shown { (k : S.Key) (acts : List Own) → S.meaning.places.waiting k acts future
-        → IfOk result (λ p. Shown S.meaning k acts (cx.old.now, Act.Poll) (L.recorded cx.old.rec.now) p (L.recorded cx.new.rec.now)) }
+    ensures shown { ActShown S.meaning (Live.Future future) (cx.old.now, Act.Poll)
+        (L.recorded cx.old.rec.now) result (L.recorded cx.new.rec.now) }
     ensures context { SameContext L.place cx.old cx.new }
 {
     let mut future = future;
-    match S::poll_at(&mut future, cx) {
+    match S::poll_at(&mut *future, cx) {
         Ok(Poll::Pending) => Ok((Live::Future(future), Answer::Pending)),
         Ok(Poll::Ready(Ok(response))) => {
-            let left = S::abandon_future(future, cx);
-            respond::<S, L>(response, left, cx)
+            let abandoned = S::abandon_future(Box::into_inner(future), cx);
+            respond::<S, L>(response, abandoned, cx)
         }
         Ok(Poll::Ready(Err(error))) => {
-            S::abandon_future(future, cx)?;
+            S::abandon_future(Box::into_inner(future), cx)?;
             Ok((Live::Over, Answer::ServiceError(error)))
         }
         Err(no_memory) => {
-            let _ = S::abandon_future(future, cx);
+            let _ = S::abandon_future(Box::into_inner(future), cx);
             Err(no_memory)
         }
     }
@@ -111,71 +137,74 @@ where
 
 /// Polls a body, at a time that is not before its acts.
 fn poll_streaming<S, L>(
-    body: S::Body,
+    body: Box<S::Body>,
     cx: &mut Cx<'_, L>,
 ) -> Got<(Live<S::Future, S::Body>, Answer)>
 where
     L: Recorder,
     S: Driven,
-    requires { S.meaning.body_may body }
+    requires { S.meaning.body_may body.value }
     ensures may { IfOk result (λ p. MayGoOn S.meaning p.0) }
-    ensures shown { (k : S.Key) (acts : List Own) → S.meaning.places.streaming k acts body → NotBefore cx.old.now acts
-        → IfOk result (λ p. Shown S.meaning k acts (cx.old.now, Act.Poll) (L.recorded cx.old.rec.now) p (L.recorded cx.new.rec.now)) }
+    ensures shown { (k : S.Key) (acts : List Own) → S.meaning.places.streaming k acts body.value
+        → NotBefore cx.old.now acts → IfShown S.meaning k acts (cx.old.now, Act.Poll)
+        (L.recorded cx.old.rec.now) result (L.recorded cx.new.rec.now) }
     ensures context { SameContext L.place cx.old cx.new }
 {
     let mut body = body;
-    match S::frame_at(&mut body, cx) {
+    match S::frame_at(&mut *body, cx) {
         Ok(Poll::Pending) => Ok((Live::Body(body), Answer::Pending)),
         Ok(Poll::Ready(Some(Ok(frame)))) => {
-            let ended = S::ends_at(&body);
+            let ended = S::ends_at(&*body);
             match seen_in(cx.alloc, frame) {
                 Ok(frame) => Ok((Live::Body(body), Answer::Frame { frame, ended })),
-                Err(no_memory) => abandon_refused::<S, L>(body, no_memory, cx),
+                Err(no_memory) => abandon_refused::<S, L>(Box::into_inner(body), no_memory, cx),
             }
         }
         Ok(Poll::Ready(Some(Err(fault)))) => Ok((Live::Body(body), Answer::Fault(fault))),
         Ok(Poll::Ready(None)) => Ok((Live::Body(body), Answer::End)),
-        Err(no_memory) => abandon_refused::<S, L>(body, no_memory, cx),
+        Err(no_memory) => abandon_refused::<S, L>(Box::into_inner(body), no_memory, cx),
     }
 }
 
 /// Abandons a future that waits.
 fn drop_waiting<S, L>(
-    future: S::Future,
+    future: Box<S::Future>,
     cx: &mut Cx<'_, L>,
 ) -> Got<(Live<S::Future, S::Body>, Answer)>
 where
     L: Recorder,
     S: Driven,
-    requires { S.meaning.future_may future }
+    requires { S.meaning.future_may future.value }
     ensures may { IfOk result (λ p. MayGoOn S.meaning p.0) }
     ensures idle { IfOk result (λ p. IsIdle p.0) }
-    ensures done { (k : S.Key) (acts : List Own) → S.meaning.places.waiting k acts future → 1 ≤ (L.recorded cx.old.rec.now).spare → IsOk result }
-    ensures shown { (k : S.Key) (acts : List Own) → S.meaning.places.waiting k acts future
-        → IfOk result (λ p. Shown S.meaning k acts (cx.old.now, Act.Drop) (L.recorded cx.old.rec.now) p (L.recorded cx.new.rec.now)) }
+    ensures done { AbandonIsDone S.meaning (Live.Future future) (L.recorded cx.old.rec.now).spare
+        result }
+    ensures shown { ActShown S.meaning (Live.Future future) (cx.old.now, Act.Drop)
+        (L.recorded cx.old.rec.now) result (L.recorded cx.new.rec.now) }
     ensures context { SameContext L.place cx.old cx.new }
 {
-    S::abandon_future(future, cx)?;
+    S::abandon_future(Box::into_inner(future), cx)?;
     Ok((Live::Over, Answer::Dropped))
 }
 
 /// Abandons a body.
 fn drop_streaming<S, L>(
-    body: S::Body,
+    body: Box<S::Body>,
     cx: &mut Cx<'_, L>,
 ) -> Got<(Live<S::Future, S::Body>, Answer)>
 where
     L: Recorder,
     S: Driven,
-    requires { S.meaning.body_may body }
+    requires { S.meaning.body_may body.value }
     ensures may { IfOk result (λ p. MayGoOn S.meaning p.0) }
     ensures idle { IfOk result (λ p. IsIdle p.0) }
-    ensures done { (k : S.Key) (acts : List Own) → S.meaning.places.streaming k acts body → 1 ≤ (L.recorded cx.old.rec.now).spare → IsOk result }
-    ensures shown { (k : S.Key) (acts : List Own) → S.meaning.places.streaming k acts body
-        → IfOk result (λ p. Shown S.meaning k acts (cx.old.now, Act.Drop) (L.recorded cx.old.rec.now) p (L.recorded cx.new.rec.now)) }
+    ensures done { AbandonIsDone S.meaning (Live.Body body) (L.recorded cx.old.rec.now).spare
+        result }
+    ensures shown { ActShown S.meaning (Live.Body body) (cx.old.now, Act.Drop)
+        (L.recorded cx.old.rec.now) result (L.recorded cx.new.rec.now) }
     ensures context { SameContext L.place cx.old cx.new }
 {
-    S::abandon_body(body, cx)?;
+    S::abandon_body(Box::into_inner(body), cx)?;
     Ok((Live::Over, Answer::Dropped))
 }
 
@@ -189,24 +218,29 @@ fn call_fresh<S, L>(
 where
     L: Recorder,
     S: Driven,
-    requires { S.meaning.may stack.old }
+    requires may_stack { S.meaning.may stack.old }
+    requires fits { ScriptFits script.now }
     ensures may { IfOk result (λ p. MayGoOn S.meaning p.0) }
     ensures may_stack { S.meaning.may stack.new }
-    ensures kept { (k : S.Key) → S.meaning.places.serves k stack.old → S.meaning.places.serves k stack.new }
-    ensures shown { (limits : S.Limits) (acts : List Own) → S.meaning.places.fresh (S.meaning.key_of limits number script.now) acts → S.meaning.places.serves (S.meaning.key_of limits number script.now) stack.old → S.meaning.places.ready (S.meaning.key_of limits number script.now) (L.recorded cx.old.rec.now)
-        → IfOk result (λ p. Shown S.meaning (S.meaning.key_of limits number script.now) acts (cx.old.now, Act.Call) (L.recorded cx.old.rec.now) p (L.recorded cx.new.rec.now)) }
+    ensures kept { KeepsServing S.meaning stack.old stack.new }
+    ensures shown { (limits : S.Limits) (acts : List Own)
+        → CallOfServed S.meaning (S.meaning.key_of limits number script.now) acts stack.old
+        cx.old.now (L.recorded cx.old.rec.now) result (L.recorded cx.new.rec.now) }
     ensures context { SameContext L.place cx.old cx.new }
 {
-    let request = match S::request_of(cx.alloc, script, number) {
-        Ok(request) => request,
-        Err(no_memory) => return Err(no_memory),
-    };
+    let request = S::request_of(cx.alloc, script, number)?;
     let future = S::call_at(stack, request, cx)?;
-    Ok((Live::Future(future), Answer::Called))
+    match Box::new(cx.alloc, future) {
+        Ok(future) => Ok((Live::Future(future), Answer::Called)),
+        Err(AllocFailed { value }) => {
+            let _ = S::abandon_future(value, cx);
+            Err(NoMemory)
+        }
+    }
 }
 
-/// One act of the request of a number, at a time that is not before the acts so far. Where it is refused for
-/// memory, all that was live was abandoned. A Drop for whose record there is room is not refused.
+/// One act of the request of a number, at a time that is not before the acts so far; no header list of its
+/// script holds over 1,000 values. Where it is refused for memory, all that was live was abandoned. A Drop for whose record there is room is not refused.
 pub fn act_on<S, L>(
     stack: &mut S::Stack,
     script: &Script,
@@ -220,13 +254,15 @@ where
     S: Driven,
     requires may { MayGoOn S.meaning live }
     requires may_stack { S.meaning.may stack.old }
+    requires fits { ScriptFits script.now }
     ensures may { IfOk result (λ p. MayGoOn S.meaning p.0) }
     ensures may_stack { S.meaning.may stack.new }
-    ensures kept { (k : S.Key) → S.meaning.places.serves k stack.old → S.meaning.places.serves k stack.new }
-    ensures dropped { (k : S.Key) (acts : List Own) → LiveAt S.meaning k acts live → act ≡ Act.Drop → HasRoom live (L.recorded cx.old.rec.now).spare → IsOk result }
+    ensures kept { KeepsServing S.meaning stack.old stack.new }
+    ensures dropped { DropIsDone S.meaning live act (L.recorded cx.old.rec.now).spare result }
     ensures idle { act ≡ Act.Drop → IfOk result (λ p. IsIdle p.0) }
-    ensures shown { (limits : S.Limits) (acts : List Own) → LiveAt S.meaning (S.meaning.key_of limits number script.now) acts live → S.meaning.places.serves (S.meaning.key_of limits number script.now) stack.old → S.meaning.places.ready (S.meaning.key_of limits number script.now) (L.recorded cx.old.rec.now)
-        → NotBefore cx.old.now acts → IfOk result (λ p. Shown S.meaning (S.meaning.key_of limits number script.now) acts (cx.old.now, act) (L.recorded cx.old.rec.now) p (L.recorded cx.new.rec.now)) }
+    ensures shown { (limits : S.Limits) (acts : List Own)
+        → ActOfServed S.meaning (S.meaning.key_of limits number script.now) acts stack.old live
+        (cx.old.now, act) (L.recorded cx.old.rec.now) result (L.recorded cx.new.rec.now) }
     ensures context { SameContext L.place cx.old cx.new }
 {
     S::idles();
@@ -256,16 +292,16 @@ where
     L: Recorder,
     S: Driven,
     requires { MayGoOn S.meaning live }
-    ensures done { (k : S.Key) (acts : List Own) → LiveAt S.meaning k acts live → HasRoom live (L.recorded cx.old.rec.now).spare → IsOk result }
-    ensures shown { (k : S.Key) (acts : List Own) → LiveAt S.meaning k acts live
-        → IfOk result (λ done. Ended S.meaning k acts cx.old.now (L.recorded cx.old.rec.now) (L.recorded cx.new.rec.now)) }
+    ensures done { AbandonIsDone S.meaning live (L.recorded cx.old.rec.now).spare result }
+    ensures shown { EndShown S.meaning live cx.old.now
+        (L.recorded cx.old.rec.now) result (L.recorded cx.new.rec.now) }
     ensures context { SameContext L.place cx.old cx.new }
 {
     S::idles();
     match live {
         Live::Fresh => Ok(()),
-        Live::Future(future) => S::abandon_future(future, cx),
-        Live::Body(body) => S::abandon_body(body, cx),
+        Live::Future(future) => S::abandon_future(Box::into_inner(future), cx),
+        Live::Body(body) => S::abandon_body(Box::into_inner(body), cx),
         Live::Over => Ok(()),
     }
 }

@@ -6,14 +6,14 @@ use Rattle.life_script.specs.Scenario.{ScenarioView}
 use Rattle.life_script.specs.declared.error.DriveError.{DriveError}
 use Rattle.life_script.specs.declared.scenario.Limits.{Limits}
 use Rattle.life_script.proofs.ReadingLemmas.{reads_not_bad, reads_built, reads_one}
-use Rattle.life_script.specs.Reading.{Reads}
+use Rattle.life_script.specs.Reading.{IsNotBuilt, Reads}
 use Rattle.life_script.specs.Valid.{verdict}
 use Rattle.life_stack.specs.Stack.Drive.{report_of}
 use Rattle.life_session.specs.Report.{report_text}
 use Rattle.life_stack.specs.Program.Output.{IsOutput, IsOutputFor, IsReport, IsRefusal, IsUnread}
-use Rattle.life_stack.specs.Program.Lines.{refused_line}
+use Rattle.life_stack.specs.Program.Lines.{not_built_line, refused_line}
 use Rattle.life_stack.specs.Program.Input.{most_bytes, IsWhole}
-use Rattle.life_stack.specs.Program.Run.{RanOn, Ended, IsCutShort, HasScenario, HasOutput}
+use Rattle.life_stack.specs.Program.Run.{RanOn, EndedWith, IsCutShort, HasScenario, HasOutput}
 use Rattle.life_stack.specs.Program.Writing.{IsAnswered}
 use Rattle.life_stack.specs.declared.program.words.Command.{Command}
 use Rattle.life_stack.specs.declared.program.words.Command.TheVariants.{Drive}
@@ -23,6 +23,12 @@ use Rattle.life_stack.specs.declared.program.status.Status.TheVariants.{Done, Us
 -- there is one command
 pub one_command : (command : Command) → command ≡ Drive
 one_command Drive = refl
+
+-- the line on what is not built yet is the output for its bytes
+pub not_built_is_output : (bytes text : List ℕ) (status : Status) → IsNotBuilt bytes → status ≡ BadScenario → text ≡ not_built_line → IsOutputFor bytes status text
+not_built_is_output bytes text status cause is line =
+    let output : IsUnread bytes text = inr (cause, line) in
+    subst (λ (s : Status). IsOutputFor bytes s text) (sym is) output
 
 -- the output of a scenario that is refused is the line that says why
 pub refusal_is_output : (bytes text : List ℕ) (limits : Limits) (scenario : ScenarioView) (why : DriveError) (status : Status)
@@ -64,7 +70,7 @@ output_size command taken text left status output = elim (by_output command take
 ]
 
 written : (command : Option Command) (taken text : List ℕ) (left held held' : Option (List ℕ)) (status : Status)
-    → IsOutput command taken left status text → Appends held held' text → Ended command taken text left held held' status
+    → IsOutput command taken left status text → Appends held held' text → EndedWith command taken text left held held' status
 written command taken text left held held' Done output whole = record { was_output = output; whole = whole }
 written command taken text left held held' Usage output whole = record { was_output = output; whole = whole }
 written command taken text left held held' BadScenario output whole = record { was_output = output; whole = whole }
@@ -75,12 +81,12 @@ written command taken text left held held' SinkFault output whole = absurd outpu
 written command taken text left held held' NoMemory output whole = absurd output
 
 ended : (command : Option Command) (taken text : List ℕ) (left held held' : Option (List ℕ)) (meant status : Status)
-    → IsOutput command taken left meant text → IsAnswered text held held' meant status → Ended command taken text left held held' status
+    → IsOutput command taken left meant text → IsAnswered text held held' meant status → EndedWith command taken text left held held' status
 ended command taken text left held held' meant status output (inl (is, whole)) =
-    subst (λ (s : Status). Ended command taken text left held held' s) (sym is) (written command taken text left held held' meant output whole)
+    subst (λ (s : Status). EndedWith command taken text left held held' s) (sym is) (written command taken text left held held' meant output whole)
 ended command taken text left held held' meant status output (inr (is, begun)) =
     let cut : IsCutShort command taken text left held held' = record { meant = meant; was_output = output; begun = begun } in
-    subst (λ (s : Status). Ended command taken text left held held' s) (sym is) cut
+    subst (λ (s : Status). EndedWith command taken text left held held' s) (sym is) cut
 
 over : (command : Option Command) (taken text : List ℕ) (left held held' : Option (List ℕ)) (meant status : Status)
     → IsOutput command taken left meant text → IsAnswered text held held' meant status → most_bytes < length taken → (status ≡ TooLong) ⊎ (status ≡ SinkFault)

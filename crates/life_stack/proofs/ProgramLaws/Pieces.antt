@@ -21,8 +21,8 @@ one_more before held now text at n le b h e =
     ap (λ (l : List ℕ). take at text ++ l) piece ∙ sym (take-add at n text) in
     (omega arith, subst (λ (l : List ℕ). Appends before now l) joined (Appends-trans before held now _ _ h e))
 
-pub room_left : (P : ℕ → Type 0) (room at n : ℕ) → P (room - at - n) → P (room - (at + n))
-room_left P room at n p = let e : room - at - n ≡ room - (at + n) = omega arith in subst P e p
+pub room_past_piece : (P : ℕ → Type 0) (room at n : ℕ) → P (room - at - n) → P (room - (at + n))
+room_past_piece P room at n p = let e : room - at - n ≡ room - (at + n) = omega arith in subst P e p
 
 -- what was taken, and then a piece more
 pub taken_more : (P : List ℕ → Type 0) (before left now : Option (List ℕ)) (bytes piece : List ℕ) → Consumes before left bytes → Consumes left now piece

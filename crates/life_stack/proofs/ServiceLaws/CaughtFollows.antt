@@ -3,10 +3,9 @@ use Rattle.std.proofs.Common.{◌≡◌, ℕ, suc, List, [], ◌∷◌, ◌++◌
 use Rattle.std.proofs.lemmas.Bool.{le-leb}
 use Rattle.std.specs.Prelude.{codes, slice_get, ⊤}
 use Rattle.std.specs.declared.convert.Infallible.{Infallible}
-use Rattle.life_core.specs.Full.{FullFrames, NothingToAbandon, full_ends}
-use Rattle.life_core.specs.History.{BodyFollows, FutureFollows, FutureHistory, Adds, Matches, ServiceFollows, Where, Waiting, Answered, left_at}
-use Rattle.life_core.specs.Limited.{LimitedAbandons}
-use Rattle.life_core.specs.Calls.{Abandons, Polls}
+use Rattle.life_core.specs.Full.{FullFrames, full_ends}
+use Rattle.life_core.specs.History.{BodyFollows, FutureFollows, FutureHistory, Adds, IsSaid, ServiceFollows, Where, Waiting, Answered, abandoned_at}
+use Rattle.life_core.specs.Calls.{Abandons, Polls, NothingToAbandon}
 use Rattle.life_core.specs.Message.{IsText}
 use Rattle.life_core.specs.OneChunk.{FullStands, TellsChunk}
 use Rattle.life_core.specs.declared.body.limited.Limited.{Limited}
@@ -27,35 +26,35 @@ use Rattle.life_stack.specs.Service.History.{BodyPlan, Head, Heads, ScriptBodySt
 use Rattle.life_stack.specs.Service.Caught.{CaughtStands, caught_abandons, decided_says, item_says, CaughtFuture, CaughtFutureStands, CaughtServes, caught_calls, caught_ends, caught_frames, caught_future_abandons, caught_history, caught_polls}
 use Rattle.life_stack.specs.Table.Decision.{panic_reply, text_reply, called_by}
 use Rattle.life_stack.specs.Table.Handed.{decided_events, panic_at, panic_event}
-use Rattle.life_stack.specs.Service.Script.{AsksFor, IsDefaultExt, ScriptFrames, ScriptAbandons, item_frame, tells_end}
+use Rattle.life_stack.specs.Service.Script.{AsksFor, IsDefaultExt, ScriptFrames, item_frame, tells_end}
 use Rattle.life_stack.specs.declared.service.ext.Ext.{Ext}
 use Rattle.life_stack.specs.declared.service.body.ScriptBody.{ScriptBody}
 use Rattle.life_stack.proofs.ServiceLaws.Handing.{no_item, script_body_follows}
 use Rattle.life_stack.proofs.ServiceLaws.ScriptFollows.{script_follows, script_keeps, script_serves}
 
 -- one history in place of another that says the same
-module _ {H P F B X E : Type 0} (polls : Polls F (Result (Response B X) E)) (abandons : Abandons F) (Tells : H → ResponseHead X → Type 0) (Stands : F → Where → Type 0) (Bodies : P → B → List ℕ → Type 0) (h g : FutureHistory H P E)
-    (says : (past : List ℕ) (t : ℕ) → h.says past t ≡ g.says past t) (events : (past : List ℕ) (t : ℕ) → h.events past t ≡ g.events past t) (left : (past : List ℕ) (t : ℕ) → h.left past t ≡ g.left past t)
-    (inner : FutureFollows polls abandons Tells Stands Bodies h) where
-  left_is : (w : Where) (t : ℕ) → left_at h w t ≡ left_at g w t
+module _ {H P F B X E : Type 0} (polls : Polls F (Result (Response B X) E)) (abandons : Abandons F) (SaidHeads : H → ResponseHead X → Type 0) (Stands : F → Where → Type 0) (Bodies : P → B → List ℕ → Type 0) (h g : FutureHistory H P E)
+    (says : (past : List ℕ) (t : ℕ) → h.says past t ≡ g.says past t) (events : (past : List ℕ) (t : ℕ) → h.events past t ≡ g.events past t) (left : (past : List ℕ) (t : ℕ) → h.abandoned past t ≡ g.abandoned past t)
+    (inner : FutureFollows polls abandons SaidHeads Stands Bodies h) where
+  left_is : (w : Where) (t : ℕ) → abandoned_at h.abandoned w t ≡ abandoned_at g.abandoned w t
   left_is (Waiting past) t = left past t
   left_is Answered t = refl
 
-  pub follows_as : FutureFollows polls abandons Tells Stands Bodies g
+  pub follows_as : FutureFollows polls abandons SaidHeads Stands Bodies g
   follows_as = record {
     poll = λ past f was m a new now s p. let i = inner.poll past f was m a new now s p in record {
-      answer = subst (λ x. Matches Tells Bodies x a) (says past m.now) i.answer;
+      answer = subst (λ x. IsSaid SaidHeads Bodies x a) (says past m.now) i.answer;
       adds = subst (λ es. Adds was now es) (events past m.now) i.adds;
       stands = i.stands;
     };
-    left = λ w f was m u now s l. subst (λ es. Adds was now es) (left_is w m.now) (inner.left w f was m u now s l);
+    abandoned = λ w f was m u now s l. subst (λ es. Adds was now es) (left_is w m.now) (inner.abandoned w f was m u now s l);
     refused = λ w f was m e now s l. rw (sym (left_is w m.now)) (inner.refused w f was m e now s l);
   }
 
 -- ITS BODIES.
 
 pub caught_body : BodyFollows caught_frames caught_abandons caught_ends CaughtStands script_body_history
-caught_body = box_follows ScriptFrames ScriptAbandons tells_end ScriptBodyStands (FullFrames {E = Infallible}) NothingToAbandon full_ends (FullStands script_body_history) script_body_history script_body_follows (full_never_faults script_body_history)
+caught_body = box_follows ScriptFrames NothingToAbandon tells_end ScriptBodyStands (FullFrames {E = Infallible}) NothingToAbandon full_ends (FullStands script_body_history) script_body_history script_body_follows (full_never_faults script_body_history)
 
 -- the plan of one chunk
 pub one_text : (status : ℕ) (text : List ℕ) → TellsChunk text (script_body_history (body_plan (text_reply status text)))
@@ -65,7 +64,7 @@ one_text status text = record {
   untold = refl;
   ended = λ p past. le-leb 1 (suc (length past)) (omega arith);
   events = λ past q. refl;
-  left = λ past q. refl;
+  abandoned = λ past q. refl;
 }
 
 -- ITS ANSWERS.
@@ -114,7 +113,7 @@ caught_follows left script = follows_as _ _ _ _ _ _ _ (λ past t. says script.ca
 -- THE SERVICE.
 
 pub caught_serves : (left : ℕ) (script : ScriptView) (i : ℕ) → ServiceFollows caught_calls (AsksFor left script i) (CaughtServes script i) (λ t. CaughtFutureStands left script) []
-caught_serves left script i = catch_serves _ (LimitedAbandons ScriptAbandons) _ (λ _. ⊤) _ _ _ (script_serves left script i)
+caught_serves left script i = catch_serves _ NothingToAbandon _ (λ _. ⊤) _ _ _ (script_serves left script i)
 
 pub caught_keeps : (script : ScriptView) (i : ℕ) → ServiceFollows {R = Request (Limited ScriptBody) Ext} caught_calls (λ r. ⊤) (CaughtServes script i) (λ t (f : CaughtFuture) (w : Where). ⊤) []
-caught_keeps script i = catch_keeps _ (LimitedAbandons ScriptAbandons) (λ _. ⊤) _ _ _ (script_keeps script i)
+caught_keeps script i = catch_keeps _ NothingToAbandon (λ _. ⊤) _ _ _ (script_keeps script i)

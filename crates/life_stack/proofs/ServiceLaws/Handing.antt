@@ -1,6 +1,7 @@
 -- What a service is handed, ask by ask: the items of the request's body in order, with the room that is left.
 use lib.Dec.{leb-zero, leb-suc-suc}
-use Rattle.std.proofs.Common.{◌≡◌, ◌≤◌, ℕ, zero, suc, ◌+◌, ◌-◌, List, [], ◌∷◌, ◌++◌, length, drop, Bool, true, false, Option, Some, None, Ok, Err, Result, IfOk, refl, sym, ap, ap₂, ◌∙◌, subst, arith}
+use Rattle.std.proofs.Common.{◌≡◌, ℕ, zero, suc, ◌+◌, ◌-◌, List, [], ◌∷◌, ◌++◌, length, drop, Bool, true, false, Option, Some, None, Ok, Err, Result, IfOk, refl, sym, ap, ap₂, ◌∙◌, subst, arith}
+use Rattle.life_core.specs.Calls.{NothingToAbandon}
 use Rattle.std.proofs.lemmas.Bool.{le-leb, leb-false}
 use Rattle.std.proofs.lemmas.List.{drop-drop}
 use Rattle.std.specs.Prelude.{◌&&◌, nat_le, slice_get, if◌then◌else◌}
@@ -30,7 +31,7 @@ use Rattle.life_script.specs.declared.scenario.PollItem.{PollItem}
 use Rattle.life_stack.specs.Service.History.{BodyPlan, ScriptBodyStands, script_body_history}
 use Rattle.life_stack.specs.Table.Handed.{asked_before, asks_of, handed_at, handed_by, handed_from, room_before, room_past}
 use Rattle.life_stack.specs.Table.Request.{shown_headers}
-use Rattle.life_stack.specs.Service.Script.{Asked, ScriptFrames, ScriptAbandons, asked_of, item_frame, items_of, tells_end}
+use Rattle.life_stack.specs.Service.Script.{Asked, ScriptFrames, asked_of, item_frame, items_of, tells_end}
 use Rattle.life_stack.specs.Service.Handing.{IsHandedAs}
 use Rattle.life_stack.specs.declared.service.body.ScriptBody.{ScriptBody}
 
@@ -61,15 +62,15 @@ no_item (suc n) = refl
 
 -- A SCRIPTED BODY.
 
-pub script_body_follows : BodyFollows ScriptFrames ScriptAbandons tells_end ScriptBodyStands script_body_history
+pub script_body_follows : BodyFollows ScriptFrames NothingToAbandon tells_end ScriptBodyStands script_body_history
 script_body_follows = record {
   tells = λ p b past s. ap (λ x. x && nat_le (length (items_of b)) 0) s.tells ∙ ap (λ l. p.tells && nat_le (length l) 0) s.items ∙ ap (λ e. p.tells && e) (used_up (length past) p.items);
-  frame = λ p past b was m a new now l s f. record {
+  frame = λ p past b was m a new now s f. record {
     answer = f.0.answer_is ∙ ap (λ l. item_frame (slice_get l 0)) s.items ∙ ap item_frame (first_left p.items (length past));
     adds = adds_none was now f.1;
     stands = record { items = f.0.rest ∙ ap (drop 1) s.items ∙ one_less p.items (length past); tells = f.0.tells ∙ s.tells };
   };
-  left = λ p past b was m u now s f. adds_none was now f.1;
+  abandoned = λ p past b was m u now s f. adds_none was now f.1;
   refused = λ p past b was m e now s f. absurd (cc f.0);
 }
 
@@ -161,7 +162,7 @@ pub asked_one : (old new : Limited ScriptBody) (was mid now : Recorded) (m : Mom
     LimitedFrames ScriptFrames old was m (Ok a) new mid → IsHandedAs a got → Notes mid (event.Handed got) (Ok tt) now → Asked 1 old was new now
 asked_one old new was mid now m a got f h n =
     let plan : BodyPlan = record { items = asked_of old; tells = (body_in old).tells } in
-    let i = (limited_follows ScriptFrames ScriptAbandons tells_end ScriptBodyStands script_body_history script_body_follows).frame (room_in old, plan) [] old was m a new mid tt
+    let i = (limited_follows ScriptFrames NothingToAbandon tells_end ScriptBodyStands script_body_history script_body_follows).frame (room_in old, plan) [] old was m a new mid
     (record { room_is = refl; inner = record { items = refl; tells = refl } }) f in
     let is : got ≡ handed_by (room_in old) (slice_get (asked_of old) 0) = handed_is (room_in old) (slice_get (asked_of old) 0) got (subst (λ x. IsHandedAs x got) i.answer h) in
     record {
@@ -179,27 +180,25 @@ asked_noted old new was mid now m a got (Err e) f h n = tt
 pub asked_none : (old : Limited ScriptBody) (was : Recorded) → Asked 0 old was old was
 asked_none old was = record { adds = adds_none was was refl; room = refl; rest = refl }
 
--- once, and then n times
-pub asked_then : (n : ℕ) (old mid new : Limited ScriptBody) (was between now : Recorded) → Asked 1 old was mid between → Asked n mid between new now → Asked (suc n) old was new now
-asked_then n old mid new was between now a b =
-    let first = handed_from (room_in old) (asked_of old) 0 1 in
-    let same : handed_from (room_in mid) (asked_of mid) 0 n ≡ handed_from (room_in old) (asked_of old) 1 n =
-    ap₂ (λ room items. handed_from room items 0 n) a.room a.rest ∙ from_there (room_in old) (asked_of old) 1 n in
+-- n asks from ask j on, and then the next one
+from_last : (left : ℕ) (items : List BodyItem) (j n : ℕ) → handed_from left items j n ++ handed_from left items (j + n) 1 ≡ handed_from left items j (suc n)
+from_last left items j zero = let same : j + 0 ≡ j = omega arith in ap (λ k. handed_from left items k 1) same
+from_last left items j (suc n) = let same : j + suc n ≡ suc j + n = omega arith in
+    ap (λ es. event.Handed (handed_at left items j) ∷ es) (ap (λ k. handed_from left items (suc j) n ++ handed_from left items k 1) same ∙ from_last left items (suc j) n)
+
+-- n times, and then once more
+pub asked_further : (n : ℕ) (old mid new : Limited ScriptBody) (was between now : Recorded) → Asked n old was mid between → Asked 1 mid between new now → Asked (n + 1) old was new now
+asked_further n old mid new was between now a b =
+    let first = handed_from (room_in old) (asked_of old) 0 n in
+    let one : suc n ≡ n + 1 = omega arith in
+    let from_start : n ≡ 0 + n = omega arith in
+    let same : handed_from (room_in mid) (asked_of mid) 0 1 ≡ handed_from (room_in old) (asked_of old) n 1 =
+    ap₂ (λ room items. handed_from room items 0 1) a.room a.rest ∙ from_there (room_in old) (asked_of old) n 1 in
+    let whole : first ++ handed_from (room_in mid) (asked_of mid) 0 1 ≡ handed_from (room_in old) (asked_of old) 0 (n + 1) =
+    ap (λ es. first ++ es) same ∙ ap (λ k. first ++ handed_from (room_in old) (asked_of old) k 1) from_start
+    ∙ from_last (room_in old) (asked_of old) 0 n ∙ ap (handed_from (room_in old) (asked_of old) 0) one in
     record {
-      adds = subst (λ es. Adds was now (first ++ es)) same (adds_then was between now first _ a.adds b.adds);
-      room = b.room ∙ ap₂ (λ room items. room_before room items n) a.room a.rest ∙ room_more (room_in old) (asked_of old) 1 n ∙ ap (room_before (room_in old) (asked_of old)) (one_and n);
-      rest = b.rest ∙ ap (drop n) a.rest ∙ (drop-drop n 1 (asked_of old) ∙ ap (λ k. drop k (asked_of old)) (one_and n));
+      adds = subst (λ es. Adds was now es) whole (adds_then was between now first _ a.adds b.adds);
+      room = b.room ∙ ap₂ (λ room items. room_before room items 1) a.room a.rest ∙ room_more (room_in old) (asked_of old) n 1;
+      rest = b.rest ∙ ap (drop 1) a.rest ∙ one_less (asked_of old) n ∙ ap (λ k. drop k (asked_of old)) one;
     }
-  where
-    one_and : (n : ℕ) → 1 + n ≡ suc n
-    one_and n = omega arith
-
-at_least_one : (n : ℕ) → (n ≡ 0 → ⊥) → 1 ≤ n
-at_least_one zero e = absurd (e refl)
-at_least_one (suc n) e = omega arith
-
--- once, and then one time less
-pub asked_again : (n : ℕ) (old mid new : Limited ScriptBody) (was between now : Recorded) (last : Result Unit NoMemory) → (n ≡ 0 → ⊥) → Asked 1 old was mid between → IfOk last (λ done. Asked (n - 1) mid between new now) →
-    IfOk last (λ done. Asked n old was new now)
-asked_again n old mid new was between now (Ok u) more a b = let some = at_least_one n more in let same : suc (n - 1) ≡ n = omega (arith, some) in subst (λ k. Asked k old was new now) same (asked_then (n - 1) old mid new was between now a b)
-asked_again n old mid new was between now (Err e) more a b = tt

@@ -1,7 +1,8 @@
 -- The scripted service answers by its items, and records what it was handed.
 use Rattle.std.proofs.Common.{◌≡◌, ◌≤◌, ℕ, suc, List, [], ◌∷◌, length, drop, Option, Some, None, Ok, Err, refl, sym, ap, ap₂, ◌∙◌, subst}
+use Rattle.life_core.specs.Calls.{NothingToAbandon}
 use Rattle.std.specs.Prelude.{slice_get, ⊤}
-use Rattle.life_core.specs.History.{FutureFollows, Adds, Waits, Fails, Where, Waiting, Answered, Matches, where_after, left_at, ServiceFollows}
+use Rattle.life_core.specs.History.{FutureFollows, Adds, Waits, Fails, Where, Waiting, Answered, IsSaid, where_after, abandoned_at, ServiceFollows}
 use Rattle.life_core.specs.Limited.{room_in}
 use Rattle.life_core.specs.Recorded.{Recorded}
 use Rattle.life_core.specs.declared.body.limited.Limited.{Limited}
@@ -21,7 +22,7 @@ use Rattle.life_script.specs.declared.scenario.Then.{Then}
 use Rattle.life_script.specs.declared.scenario.Then.TheVariants as then_
 use Rattle.life_stack.specs.Service.History.{Heads, ScriptStands, ScriptBodyStands, ServesOn, StandsBy, call_hands, call_gives, item_gives, script_history, then_gives}
 use Rattle.life_stack.specs.Table.Handed.{asked_before, asks_of, handed_from, room_before}
-use Rattle.life_stack.specs.Service.Script.{SharedScripts, AsksFor, Answers, Asked, Finds, PollsBy, Responds, ScriptAnswer, ScriptCalls, ScriptAbandons, ScriptPolls, asked_of, panic_for, panic_of, polls_for, polls_of, script_for}
+use Rattle.life_stack.specs.Service.Script.{SharedScripts, AsksFor, Answers, Asked, Finds, PollsBy, Responds, ScriptAnswer, ScriptCalls, ScriptPolls, asked_of, panic_for, panic_of, polls_for, polls_of, script_for}
 use Rattle.life_stack.specs.declared.service.ext.Ext.{Ext}
 use Rattle.life_stack.specs.declared.service.body.ScriptBody.{ScriptBody}
 use Rattle.life_stack.specs.declared.service.future.ScriptFuture.{ScriptFuture}
@@ -34,10 +35,10 @@ IsShort (then_.Panic text) = Unit
 IsShort (then_.Fail error) = Unit
 IsShort (then_.Respond reply) = length reply.headers ≤ MAX_HEADER_VALUES
 
-then_matches : (t : Then) (a : ScriptAnswer) → IsShort t → Answers t a → Matches Heads ScriptBodyStands (then_gives t) a
-then_matches then_.Pending a short r = subst (λ x. Matches Heads ScriptBodyStands Waits x) (sym r) tt
-then_matches (then_.Panic text) a short r = subst (λ x. Matches Heads ScriptBodyStands (then_gives (then_.Panic text)) x) (sym r) refl
-then_matches (then_.Fail error) a short r = subst (λ x. Matches Heads ScriptBodyStands (then_gives (then_.Fail error)) x) (sym r) refl
+then_matches : (t : Then) (a : ScriptAnswer) → IsShort t → Answers t a → IsSaid Heads ScriptBodyStands (then_gives t) a
+then_matches then_.Pending a short r = subst (λ x. IsSaid Heads ScriptBodyStands Waits x) (sym r) tt
+then_matches (then_.Panic text) a short r = subst (λ x. IsSaid Heads ScriptBodyStands (then_gives (then_.Panic text)) x) (sym r) refl
+then_matches (then_.Fail error) a short r = subst (λ x. IsSaid Heads ScriptBodyStands (then_gives (then_.Fail error)) x) (sym r) refl
 then_matches (then_.Respond reply) (Ready (Ok s)) short r =
     ((record { status_is = (r.head).status_is; headers_are = (r.head).headers_are }, short), record { items = (r.body).items; tells = (r.body).tells })
 then_matches (then_.Respond reply) (Ready (Err e)) short r = absurd r
@@ -63,8 +64,8 @@ short_item script k None fits is = tt
 short_item script k (Some item) fits is = short_then script.polls k item fits.replies is
 
 module _ (f : ScriptFuture) (was : Recorded) (a : ScriptAnswer) (new : ScriptFuture) (now : Recorded) where
-  tells : (o : Option PollItem) → IsShortItem o → Responds o f was a new now → Matches Heads ScriptBodyStands (item_gives o) a
-  tells None short r = subst (λ x. Matches Heads ScriptBodyStands Waits x) (sym r.0) tt
+  tells : (o : Option PollItem) → IsShortItem o → Responds o f was a new now → IsSaid Heads ScriptBodyStands (item_gives o) a
+  tells None short r = subst (λ x. IsSaid Heads ScriptBodyStands Waits x) (sym r.0) tt
   tells (Some item) short r = then_matches item.then a short r.0
 
   -- the body was asked as often as the item says
@@ -95,7 +96,7 @@ stays call left script past t new (Ready a) e = tt
 -- one poll, by what was said of the call
 abbrev Steps : CallItem → ℕ → ScriptView → List ℕ → Recorded → ℕ → ScriptAnswer → ScriptFuture → Recorded → Type 0
 Steps call left script past was t a new now =
-    Matches Heads ScriptBodyStands (call_gives call (slice_get script.polls (length past))) a
+    IsSaid Heads ScriptBodyStands (call_gives call (slice_get script.polls (length past))) a
     × Adds was now (call_hands call left script (length past))
     × StandsBy call left script new (where_after past t a)
 
@@ -111,21 +112,21 @@ by_call call_item.Serve left script past f was t a new now s p =
       stays call_item.Serve left script past t new a (p.none, serves_next f was a new now left script k s.1 x p.rest, s.2),
     )
 by_call (call_item.Panic text) left script past f was t a new now s p = (
-  subst (λ x. Matches Heads ScriptBodyStands (Fails (fault.Panicked text)) x) (sym p.0) refl,
+  subst (λ x. IsSaid Heads ScriptBodyStands (Fails (fault.Panicked text)) x) (sym p.0) refl,
   adds_none was now p.1,
   subst (λ x. StandsBy (call_item.Panic text) left script new (where_after past t x)) (sym p.0) tt,
 )
 
-quiet : (w : Where) (t left : ℕ) (script : ScriptView) → left_at (script_history left script) w t ≡ []
+quiet : (w : Where) (t left : ℕ) (script : ScriptView) → abandoned_at (script_history left script).abandoned w t ≡ []
 quiet (Waiting past) t left script = refl
 quiet Answered t left script = refl
 
-pub script_follows : (left : ℕ) (script : ScriptView) → FutureFollows ScriptPolls ScriptAbandons Heads (ScriptStands left script) ScriptBodyStands (script_history left script)
+pub script_follows : (left : ℕ) (script : ScriptView) → FutureFollows ScriptPolls NothingToAbandon Heads (ScriptStands left script) ScriptBodyStands (script_history left script)
 script_follows left script = record {
   poll = λ past f was m a new now s p.
       let i = by_call script.call left script past f was m.now a new now s (subst (λ o. PollsBy o f was a new now) s.0 p) in
       record { answer = i.0; adds = i.1; stands = i.2 };
-  left = λ w f was m u now s p. rw (quiet w m.now left script) (adds_none was now p.1);
+  abandoned = λ w f was m u now s p. rw (quiet w m.now left script) (adds_none was now p.1);
   refused = λ w f was m e now s p. absurd (cc p.0);
 }
 

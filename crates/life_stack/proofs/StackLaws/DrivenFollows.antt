@@ -1,10 +1,10 @@
 -- The driven stack follows its histories: each layer's lemma over the one below it.
 use Rattle.std.proofs.Common.{◌≡◌, ℕ, List, [], length, Bool, true, false, Some, Ok, refl, ap, subst, arith}
+use Rattle.life_core.specs.Calls.{NothingToAbandon}
 use Rattle.std.proofs.lemmas.Bool.{le-leb}
 use Rattle.std.specs.Prelude.{codes, ⊤}
 use Rattle.life_core.specs.UnsyncBoxBody.{IsEmptyBox}
 use Rattle.life_core.specs.History.{BodyFollows, FutureFollows, FutureHistory, Adds, ServiceFollows, Where, answers_instead, records_unless}
-use Rattle.life_core.specs.Limited.{LimitedAbandons}
 use Rattle.life_core.specs.Message.{IsBare}
 use Rattle.life_core.specs.Moment.{Moment}
 use Rattle.life_core.specs.OneChunk.{TellsEnd}
@@ -25,23 +25,24 @@ use Rattle.life_head.proofs.RequestIdFollows.{propagate_follows, propagate_keeps
 use Rattle.life_gate.specs.Required.{is_refused}
 use Rattle.life_gate.specs.History.{Judges}
 use Rattle.life_gate.proofs.GateFollows.{gate_follows, gate_keeps, gate_serves, required_judges}
+use Rattle.life_limit.specs.LimitBody.{IsDefaultLimitBody}
 use Rattle.life_limit.specs.declared.limit.body.ResponseBody.TheVariants.{PayloadTooLarge, Body}
 use Rattle.life_limit.proofs.LimitFollows.{limit_body_follows, limit_follows, limit_keeps, limit_serves}
 use Rattle.life_script.specs.Scenario.{ScriptView}
 use Rattle.life_script.specs.Valid.{ScriptFits}
 use Rattle.life_script.specs.declared.scenario.CallItem.{CallItem}
 use Rattle.life_script.specs.declared.scenario.Limits.{Limits}
-use Rattle.life_time.specs.DeadlineBody.{DeadlineBodyAbandons, DeadlineFrames, deadline_ends}
+use Rattle.life_time.specs.DeadlineBody.{DeadlineFrames}
 use Rattle.life_time.specs.History.{DeadlineBodyStands, DeadlineStands, TimeoutStands}
 use Rattle.life_time.proofs.DeadlineFollows.{deadline_follows, deadline_body_follows, deadline_serves}
 use Rattle.life_time.proofs.TimeoutFollows.{timeout_follows, timeout_serves}
-use Rattle.life_stack.specs.Stack.Driven.{AsksGate, BodyStands, FutureStands, InnerBody, InnerBodyStands, InnerFuture, InnerServes, InnerStands, IsDefaultInner, StackStands, body_history, drive_body_abandons, drive_calls, drive_ends, drive_frames, drive_abandons, drive_polls, forbidden_head, future_history, gate_validates, inner_body_abandons, inner_calls, inner_ends, inner_frames, inner_abandons, inner_polls, named, service_history, timed_body_history}
+use Rattle.life_stack.specs.Stack.Driven.{AsksGate, BodyStands, FutureStands, InnerBody, InnerBodyStands, InnerFuture, InnerServes, InnerStands, StackStands, body_history, drive_body_abandons, drive_calls, drive_ends, drive_frames, drive_abandons, drive_polls, forbidden_head, future_history, gate_validates, inner_body_abandons, inner_calls, inner_ends, inner_frames, inner_abandons, inner_polls, named, service_history, timed_body_history}
 use Rattle.life_stack.specs.Service.History.{BodyPlan, Head, Heads, IsHead, body_plan, script_body_history}
 use Rattle.life_stack.specs.Service.Caught.{Caught, CaughtStands, caught_abandons, decided_says, caught_history}
 use Rattle.life_stack.specs.Table.Decision.{bare_reply, decided, forbidden_reply, is_shut, is_too_large, too_large_reply, called_by}
 use Rattle.life_stack.specs.Table.Handed.{decided_events, room}
 use Rattle.life_stack.specs.Table.Request.{Numbered, ident}
-use Rattle.life_stack.specs.Service.Script.{IsDefaultExt, IsRequestOf, ScriptAbandons, ext_id, ext_number, item_frame, with_id}
+use Rattle.life_stack.specs.Service.Script.{IsDefaultExt, IsRequestOf, ext_id, ext_number, item_frame, with_id}
 use Rattle.life_stack.specs.Table.Story.{due_reply}
 use Rattle.life_stack.specs.declared.service.ext.Ext.{Ext}
 use Rattle.life_stack.specs.declared.service.body.ScriptBody.{ScriptBody}
@@ -54,7 +55,7 @@ use Rattle.life_stack.proofs.ServiceLaws.CaughtFollows.{caught_body, caught_foll
 inner_body : BodyFollows inner_frames inner_body_abandons inner_ends InnerBodyStands script_body_history
 inner_body = limit_body_follows _ _ _ _ script_body_history caught_body (full_never_faults script_body_history)
 
-timed_body : (limits : Limits) → BodyFollows (DeadlineFrames inner_frames) (DeadlineBodyAbandons inner_body_abandons) (deadline_ends inner_ends) (DeadlineBodyStands limits.body_deadline InnerBodyStands) (timed_body_history limits.body_deadline)
+timed_body : (limits : Limits) → BodyFollows (DeadlineFrames inner_frames) (λ b. inner_body_abandons b.body) (λ b. inner_ends b.body) (DeadlineBodyStands limits.body_deadline InnerBodyStands) (timed_body_history limits.body_deadline)
 timed_body limits = deadline_body_follows _ _ _ _ _ limits.body_deadline inner_body
 
 no_items : (status : ℕ) → TellsEnd (script_body_history (body_plan (bare_reply status)))
@@ -62,13 +63,13 @@ no_items status = record {
   frame = λ past q. ap item_frame (no_item (length past));
   ends = λ past. le-leb 0 (length past) (omega arith);
   events = λ past q. refl;
-  left = λ past q. refl;
+  abandoned = λ past q. refl;
 }
 
 empty_box : (status : ℕ) (box : Caught) → IsEmptyBox box → CaughtStands (body_plan (bare_reply status)) box []
 empty_box status box d = rw d (no_items status)
 
-default : (limits : Limits) (b : InnerBody) → IsDefaultInner b → InnerBodyStands (body_plan (due_reply limits)) b []
+default : (limits : Limits) (b : InnerBody) → IsDefaultLimitBody IsEmptyBox b → InnerBodyStands (body_plan (due_reply limits)) b []
 default limits (Body box) d = empty_box limits.timeout_status box d
 default limits (PayloadTooLarge b) d = absurd d
 
@@ -96,7 +97,7 @@ guarded_events true shut call left script past t = refl
 guarded_events false true call left script past t = refl
 guarded_events false false call left script past t = refl
 
-guarded_left : (large shut : Bool) (call : CallItem) (left : ℕ) (script : ScriptView) (past : List ℕ) (t : ℕ) → (guarded_history large shut call left script).left past t ≡ []
+guarded_left : (large shut : Bool) (call : CallItem) (left : ℕ) (script : ScriptView) (past : List ℕ) (t : ℕ) → (guarded_history large shut call left script).abandoned past t ≡ []
 guarded_left true shut call left script past t = refl
 guarded_left false true call left script past t = refl
 guarded_left false false call left script past t = refl
@@ -124,23 +125,23 @@ no_events false true = refl
 no_events false false = refl
 
 -- to abandon a request's body records nothing
-quiet : (body : ScriptBody) (was : Recorded) (m : Moment) (u : Unit) (now : Recorded) → ScriptAbandons body was m (Ok u) now → Adds was now []
+quiet : (body : ScriptBody) (was : Recorded) (m : Moment) (u : Unit) (now : Recorded) → NothingToAbandon body was m (Ok u) now → Adds was now []
 quiet body was m u now d = adds_none was now d.1
 
-quiet_within : (body : Limited ScriptBody) (was : Recorded) (m : Moment) (u : Unit) (now : Recorded) → LimitedAbandons ScriptAbandons body was m (Ok u) now → Adds was now []
+quiet_within : (body : Limited ScriptBody) (was : Recorded) (m : Moment) (u : Unit) (now : Recorded) → NothingToAbandon body was m (Ok u) now → Adds was now []
 quiet_within body was m u now d = adds_none was now d.1
 
 inner_serves : (limits : Limits) (request : Numbered) → ServiceFollows inner_calls (AsksInner limits request) (InnerServes limits request) (λ t. InnerStands limits request) []
 inner_serves limits request =
     let large = is_too_large limits request.script in let shut = is_shut limits request in
     subst (λ es. ServiceFollows inner_calls (AsksInner limits request) (InnerServes limits request) (λ t. InnerStands limits request) es) (no_events large shut)
-    (limit_serves _ ScriptAbandons _ _ _ _ quiet
-    (gate_serves _ _ (LimitedAbandons ScriptAbandons) caught_abandons _ _ _ _ (AsksGate limits) _ Heads CaughtStands forbidden_head (body_plan forbidden_reply) quiet_within (gate_judges limits)
+    (limit_serves _ NothingToAbandon _ _ _ _ quiet
+    (gate_serves _ _ NothingToAbandon caught_abandons _ _ _ _ (AsksGate limits) _ Heads CaughtStands forbidden_head (body_plan forbidden_reply) quiet_within (gate_judges limits)
     (caught_serves (room limits request.script) request.script request.number) shut) large limits.byte_limit)
 
 inner_keeps : (limits : Limits) (request : Numbered) → ServiceFollows {R = Request ScriptBody Ext} inner_calls (λ r. ⊤) (InnerServes limits request) (λ t (f : InnerFuture) (w : Where). ⊤) []
-inner_keeps limits request = limit_keeps _ ScriptAbandons _ _ quiet
-    (gate_keeps _ _ (LimitedAbandons ScriptAbandons) caught_abandons _ _ (AsksGate limits) _ Heads CaughtStands forbidden_head (body_plan forbidden_reply) quiet_within (gate_judges limits)
+inner_keeps limits request = limit_keeps _ NothingToAbandon _ _ quiet
+    (gate_keeps _ _ NothingToAbandon caught_abandons _ _ (AsksGate limits) _ Heads CaughtStands forbidden_head (body_plan forbidden_reply) quiet_within (gate_judges limits)
     (caught_keeps request.script request.number)) limits.byte_limit
 
 -- THE STACK.
@@ -158,16 +159,16 @@ body_follows limits t0 = drop_body_follows _ _ _ _ _ (λ (h : Head). noting (dro
 
 pub stack_follows : (limits : Limits) (request : Numbered) →
     ServiceFollows {R = Request ScriptBody Ext} drive_calls (λ req. IsRequestOf request.script request.number req × ScriptFits request.script) (StackStands limits request) (FutureStands limits request) []
-stack_follows limits request = set_serves _ (NumberMakes ext_number) ext_id with_id ScriptAbandons _ _ _ _ (λ _. ⊤) (λ maker req made new k m. tt) x_request_id_name _ (request_named limits request)
+stack_follows limits request = set_serves _ (NumberMakes ext_number) ext_id with_id NothingToAbandon _ _ _ _ (λ _. ⊤) (λ maker req made new k m. tt) x_request_id_name _ (request_named limits request)
     (drop_serves _ _ _ _ _ _ _ _ note_future _ _ note_start
     (deadline_serves _ _ _ _ _ (timeout_serves _ _ _ _ _
-    (propagate_serves _ ScriptAbandons _ _ _ _ (inner_serves limits request) x_request_id_name (Some (ident request))) limits.timeout limits.timeout_status) limits.body_deadline))
+    (propagate_serves _ NothingToAbandon _ _ _ _ (inner_serves limits request) x_request_id_name (Some (ident request))) limits.timeout limits.timeout_status) limits.body_deadline))
 
 -- whatever is asked, the stack stands for what it stood for
 pub stack_keeps : (limits : Limits) (request : Numbered) → ServiceFollows {R = Request ScriptBody Ext} drive_calls (λ r. ⊤) (StackStands limits request)
     (λ t0. DropStands (noting drop_kind.Future t0) t0 (DeadlineStands limits.body_deadline
     (TimeoutStands (record { start = t0; length = limits.timeout }) limits.timeout_status (λ (f : PropagateRequestIdResponseFuture InnerFuture) (w : Where). ⊤)))) []
-stack_keeps limits request = set_serves _ (NumberMakes ext_number) ext_id with_id ScriptAbandons (λ r. ⊤) _ _ _ (λ _. ⊤) (λ maker req made new k m. tt) x_request_id_name (λ r. ⊤) (λ maker req maker_new new k q t. tt)
+stack_keeps limits request = set_serves _ (NumberMakes ext_number) ext_id with_id NothingToAbandon (λ r. ⊤) _ _ _ (λ _. ⊤) (λ maker req made new k m. tt) x_request_id_name (λ r. ⊤) (λ maker req maker_new new k q t. tt)
     (drop_serves _ _ _ _ _ _ _ _ note_future _ _ note_start
     (deadline_serves _ _ _ _ _ (timeout_serves _ _ _ _ _
-    (propagate_keeps _ ScriptAbandons _ _ _ (inner_keeps limits request) x_request_id_name) limits.timeout limits.timeout_status) limits.body_deadline))
+    (propagate_keeps _ NothingToAbandon _ _ _ (inner_keeps limits request) x_request_id_name) limits.timeout limits.timeout_status) limits.body_deadline))

@@ -1,7 +1,7 @@
 -- The driven stack follows the course of its histories, the story tells this course, and so the stack keeps the story's table.
 use Rattle.std.proofs.Common.{arith, ◌≡◌, ◌≤◌, ℕ, List, [], ◌∷◌, length, Bool, true, false, Option, Some, None, Result, Ok, Err, refl, ap, ◌∙◌}
 use Rattle.life_core.specs.Fields.{fields}
-use Rattle.life_core.specs.History.{Waiting, Answered, left_at, Where}
+use Rattle.life_core.specs.History.{Waiting, Answered, abandoned_at, Where}
 use Rattle.life_core.specs.Moment.{Moment}
 use Rattle.life_core.specs.Recorded.{Recorded}
 use Rattle.life_core.specs.declared.event.Event.{Event}
@@ -67,7 +67,7 @@ kept : (k : Key) (s : DriveStack) (req : Request ScriptBody Ext) (was : Recorded
 kept k s req was m (Ok f) new now serves c = ((stack_keeps k.0 k.1).call s req was m f new now tt serves c).0
 kept k s req was m (Err e) new now serves c = (stack_keeps k.0 k.1).refused s req was m e new now serves c
 
-future_once : (k : Key) (t0 : ℕ) (w : Where) (t : ℕ) → length (left_at (future_history k.0 k.1 t0) w t) ≤ 1
+future_once : (k : Key) (t0 : ℕ) (w : Where) (t : ℕ) → length (abandoned_at (future_history k.0 k.1 t0).abandoned w t) ≤ 1
 future_once k t0 (Waiting past) t = omega (arith)
 future_once k t0 Answered t = omega (arith)
 

@@ -175,7 +175,7 @@ module _ (limits : Limits) (request : Numbered) (before : List Own) where
     pub awaited_called : (t : ℕ) → Turn (Awaited t0 past) (t, act.Call)
     awaited_called t = record { answer = ap on_call at.called; events = refl; course = subst (λ s. AwaitedAfter limits request s t0 past) (sym (call_unseen t0 at.called t)) at }
 
-    pub awaited_drops : (t : ℕ) → drops limits request before t ≡ (drive_histories.future (limits, request) t0).left past t
+    pub awaited_drops : (t : ℕ) → drops limits request before t ≡ (drive_histories.future (limits, request) t0).abandoned past t
     awaited_drops t = rw (at.called, at.no_ending, at.kind) refl
 
     pub awaited_dropped : (t : ℕ) → Turn (Awaited t0 past) (t, act.Drop)
@@ -225,7 +225,7 @@ module _ (limits : Limits) (request : Numbered) (before : List Own) where
     unless_is true es = refl
     unless_is false es = refl
 
-    pub streamed_drops : (t : ℕ) → drops limits request before t ≡ (drive_histories.body (limits, request) t0 plan).left past t
+    pub streamed_drops : (t : ℕ) → drops limits request before t ≡ (drive_histories.body (limits, request) t0 plan).abandoned past t
     streamed_drops t = rw (at.called, at.ending, at.kind) (unless_is (ended (timed_body_history limits.body_deadline plan.1) past) _)
 
     pub streamed_dropped : (t : ℕ) → Turn (Streamed t0 plan past) (t, act.Drop)

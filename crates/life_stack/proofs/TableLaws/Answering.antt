@@ -80,7 +80,7 @@ pub body_table : (deadline ph : ℕ) (r : ReplyView) (past : List ℕ) (q : ℕ)
 body_table deadline ph r past q l = go (due ph deadline q) refl
   where
     go : (b : Bool) → due ph deadline q ≡ b →
-        frame_told (if b then Ready (Some (Err Elapsed)) else wrapped (item_frame (slice_get r.body (length past)))) (tells_after r (length (if b then undue ph deadline past else q ∷ undue ph deadline past)))
+        frame_told (if b then Ready (Some (Err Elapsed)) else wrapped (item_frame (slice_get r.body (length (undue ph deadline past))))) (tells_after r (length (if b then undue ph deadline past else q ∷ undue ph deadline past)))
         ≡ (if b then ans.Fault Elapsed else item_answer r (length past) (slice_get r.body (length past)))
     go true e = refl
     go false e = rw (undue_all ph deadline q past l e) (item_table r (length past) (slice_get r.body (length past)))

@@ -3,17 +3,25 @@ use Rattle.std.specs.Prelude.{ℕ, List, [], ◌++◌, codes, decimal}
 use Rattle.life_script.specs.declared.error.DriveError.{DriveError}
 use Rattle.life_script.specs.declared.error.DriveError.TheVariants.{TooManyHeaders, ClockBack, NoRequest, NoMemory}
 
+-- where the words are no command
 abbrev pub usage_line : List ℕ
 usage_line = codes "usage: drive\n"
 
+-- where the source gives more than is read
 abbrev pub too_long_line : List ℕ
 too_long_line = codes "input over 16777216 bytes\n"
 
+-- where the bytes are no scenario
 abbrev pub bad_scenario_line : List ℕ
 bad_scenario_line = codes "bad scenario\n"
 
+-- where the scenario has something in it that is not built yet
 abbrev pub not_built_line : List ℕ
 not_built_line = codes "not built\n"
+
+-- a line that names a refusal: why, and the number of what is refused
+abbrev pub refused_at : List ℕ → ℕ → List ℕ
+refused_at why number = codes "refused: " ++ (why ++ (codes " " ++ (decimal number ++ codes "\n")))
 
 -- the line that names a refusal; want of memory is none
 abbrev pub refused_line : DriveError → List ℕ

@@ -13,6 +13,10 @@ use Rattle.life_stack.specs.declared.program.words.Command.TheVariants.{Drive}
 use Rattle.life_stack.specs.declared.program.status.Status.{Status}
 use Rattle.life_stack.specs.declared.program.status.Status.TheVariants.{SourceFault, TooLong, SinkFault, NoMemory}
 
+-- a run that ended so was stopped before it had an output: a read failed, or there was no memory
+abbrev pub EndedEarly : Status → Type 0
+EndedEarly status = (status ≡ SourceFault) ⊎ (status ≡ NoMemory)
+
 -- a run on a command was stopped before it had an output
 pub record IsStopped (command : Option Command) (taken output : List ℕ) (held held' : Option (List ℕ)) : Type 0 where
   pub asked : command ≡ Some Drive
@@ -32,18 +36,18 @@ pub record IsWritten (command : Option Command) (taken output : List ℕ) (left 
   pub whole : Appends held held' output
 
 -- how a run ended, by its status: its output, and what was written of it
-abbrev pub Ended : Option Command → List ℕ → List ℕ → Option (List ℕ) → Option (List ℕ) → Option (List ℕ) → Status → Type 0
-Ended command taken output left held held' SourceFault = IsStopped command taken output held held'
-Ended command taken output left held held' NoMemory = IsStopped command taken output held held'
-Ended command taken output left held held' SinkFault = IsCutShort command taken output left held held'
-Ended command taken output left held held' status = IsWritten command taken output left held held' status
+abbrev pub EndedWith : Option Command → List ℕ → List ℕ → Option (List ℕ) → Option (List ℕ) → Option (List ℕ) → Status → Type 0
+EndedWith command taken output left held held' SourceFault = IsStopped command taken output held held'
+EndedWith command taken output left held held' NoMemory = IsStopped command taken output held held'
+EndedWith command taken output left held held' SinkFault = IsCutShort command taken output left held held'
+EndedWith command taken output left held held' status = IsWritten command taken output left held held' status
 
 -- a run took these bytes, and this text was its output
 pub record RanOn (command : Option Command) (taken output : List ℕ) (rest left held held' : Option (List ℕ)) (status : Status) : Type 0 where
   pub took : Consumes rest left taken
   pub at_most : length taken ≤ most_bytes + 1
   pub over : most_bytes < length taken → (status ≡ TooLong) ⊎ (status ≡ SinkFault)
-  pub ended : Ended command taken output left held held' status
+  pub ended : EndedWith command taken output left held held' status
 
 -- a source has left the bytes of a valid scenario, and no more than are read
 pub record HasScenario (rest : Option (List ℕ)) (limits : Limits) (scenario : ScenarioView) : Type 0 where

@@ -4,12 +4,12 @@ use Rattle.life_stack.specs.declared.program.status.Status.{Status}
 use Rattle.life_stack.specs.declared.program.status.Status.TheVariants.{Done, Usage, BadScenario, Refused, SourceFault, TooLong, SinkFault, NoMemory}
 
 -- the number that a process ends with
-abbrev pub number_of : Status → ℕ
-number_of Done = 0
-number_of Usage = 2
-number_of BadScenario = 4
-number_of Refused = 5
-number_of SourceFault = 6
-number_of TooLong = 7
-number_of SinkFault = 8
-number_of NoMemory = 9
+abbrev pub exit_number : Status → ℕ
+exit_number Done = 0
+exit_number Usage = 2
+exit_number BadScenario = 4
+exit_number Refused = 5
+exit_number SourceFault = 6
+exit_number TooLong = 7
+exit_number SinkFault = 8
+exit_number NoMemory = 9

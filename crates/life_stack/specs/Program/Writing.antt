@@ -12,6 +12,6 @@ AppendsPrefix before now text = (count : ℕ) × (count ≤ length text) × Appe
 abbrev pub IsAnswered : List ℕ → Option (List ℕ) → Option (List ℕ) → Status → Status → Type 0
 IsAnswered output before now meant status = ((status ≡ meant) × Appends before now output) ⊎ ((status ≡ SinkFault) × AppendsPrefix before now output)
 
--- where a sink takes so much without a fault, no fault is counted
-abbrev pub IsSteady : (ℕ → Type 0) → List ℕ → ℕ → ℕ → Type 0
-IsSteady takes output before now = (room : ℕ) → takes room → length output ≤ room → now ≡ before
+-- a sink that takes so much without a fault counts none while it takes the output
+abbrev pub IsSteady : {A : Type 0} → (A → ℕ → Type 0) → (A → ℕ) → List ℕ → A → A → Type 0
+IsSteady reliable faults output old new = (room : ℕ) → reliable old room → length output ≤ room → faults new ≡ faults old

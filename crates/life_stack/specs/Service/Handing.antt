@@ -16,11 +16,13 @@ abbrev pub handed_seen : Seen → Handed
 handed_seen (seen.Chunk bytes) = handed.Chunk bytes
 handed_seen (seen.Trailers shown) = handed.Trailers shown
 
+-- a fault, as handed
 abbrev pub fault_handed : BodyError (List ℕ) → Handed
 fault_handed fault.Elapsed = handed.Elapsed
 fault_handed fault.LengthLimit = handed.LengthLimit
 fault_handed (fault.Inner text) = handed.Inner text
 
+-- this is handed for this answer of a body
 abbrev pub IsHandedAs : Poll (Option (Result (Frame (List ℕ)) (BodyError (List ℕ)))) → Handed → Type 0
 IsHandedAs Pending got = got ≡ handed.Pending
 IsHandedAs (Ready None) got = got ≡ handed.End

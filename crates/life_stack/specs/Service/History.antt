@@ -43,6 +43,7 @@ pub record BodyPlan : Type 0 where
   pub items : List BodyItem
   pub tells : Bool
 
+-- the plan of the body of a reply
 abbrev pub body_plan : ReplyView → BodyPlan
 body_plan reply = record { items = reply.body; tells = reply.tells }
 
@@ -63,6 +64,7 @@ abbrev pub StandsBy : CallItem → ℕ → ScriptView → ScriptFuture → Where
 StandsBy call left script f (Waiting past) = (f.panic ≡ panic_of call) × ServesOn left script f (length past) × ScriptFits script
 StandsBy call left script f Answered = ⊤
 
+-- a future of this script after some polls, or after its answer
 abbrev pub ScriptStands : ℕ → ScriptView → ScriptFuture → Where → Type 0
 ScriptStands left script = StandsBy script.call left script
 
@@ -73,6 +75,7 @@ then_gives (then_.Panic text) = Fails (fault.Panicked text)
 then_gives (then_.Fail error) = Fails (fault.Err error)
 then_gives (then_.Respond reply) = reply_says reply
 
+-- what a poll item gives; without one the service waits
 abbrev pub item_gives : Option PollItem → Said Head BodyPlan (Fault (List ℕ))
 item_gives None = Waits
 item_gives (Some item) = then_gives item.then
@@ -82,27 +85,31 @@ abbrev pub call_gives : CallItem → Option PollItem → Said Head BodyPlan (Fau
 call_gives call_item.Serve o = item_gives o
 call_gives (call_item.Panic text) o = Fails (fault.Panicked text)
 
+-- what is handed at poll k: nothing where the call panics
 abbrev pub call_hands : CallItem → ℕ → ScriptView → ℕ → List Event
 call_hands call_item.Serve left script k = handed_from left script.body (asked_before script.polls k) (asks_of (slice_get script.polls k))
 call_hands (call_item.Panic text) left script k = []
 
+-- what a future of this script says and records at each poll; abandoning it records nothing
 abbrev pub script_history : ℕ → ScriptView → FutureHistory Head BodyPlan (Fault (List ℕ))
 script_history left script = record {
   says = λ past t. call_gives script.call (slice_get script.polls (length past));
   events = λ past t. call_hands script.call left script (length past);
-  left = λ past t. [];
+  abandoned = λ past t. [];
 }
 
 -- ITS BODIES.
 
+-- a body of this plan after polls at these times: it has the items after them
 pub record ScriptBodyStands (p : BodyPlan) (b : ScriptBody) (past : List ℕ) : Type 0 where
   pub items : items_of b ≡ drop (length past) p.items
   pub tells : b.tells ≡ p.tells
 
+-- what such a body gives at each poll: the items in order, and then its end
 abbrev pub script_body_history : BodyPlan → BodyHistory (List ℕ) (List ℕ)
 script_body_history p = record {
   frame = λ past q. item_frame (slice_get p.items (length past));
   events = λ past q. [];
   ends = λ past. p.tells && nat_le (length p.items) (length past);
-  left = λ past q. [];
+  abandoned = λ past q. [];
 }

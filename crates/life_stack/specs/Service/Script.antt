@@ -41,11 +41,11 @@ use Rattle.life_stack.specs.declared.service.future.ScriptFuture.{ScriptFuture}
 
 -- the items that a body has left
 abbrev pub items_of : ScriptBody → List BodyItem
-items_of b = elim b.items [ None ↦ [] | Some l ↦ drop b.next l.items ]
+items_of b = elim b.items [ None ↦ [] | Some l ↦ drop b.next l ]
 
 -- the items that a future has left
 abbrev pub polls_of : ScriptFuture → List PollItem
-polls_of f = drop f.next f.polls.items
+polls_of f = drop f.next f.polls
 
 -- what no one has set
 abbrev pub IsDefaultExt : Ext → Type 0
@@ -55,15 +55,19 @@ IsDefaultExt e = (e.number ≡ None) × (e.id ≡ None)
 abbrev pub ext_number : Ext → Option Number
 ext_number e = e.number
 
+-- the extension with this number, in place of any
 abbrev pub with_number : Ext → Number → Ext
 with_number e number = record e { number = Some number }
 
+-- the id in an extension, if any
 abbrev pub ext_id : Ext → Option RequestId
 ext_id e = e.id
 
+-- the extension with this id, in place of any
 abbrev pub with_id : Ext → RequestId → Ext
 with_id e id = record e { id = Some id }
 
+-- the body of a response by this reply
 pub record IsBodyOf (reply : ReplyView) (b : ScriptBody) : Type 0 where
   pub items : items_of b ≡ reply.body
   pub tells : b.tells ≡ reply.tells
@@ -73,13 +77,16 @@ pub record IsRequestBody (items : List BodyItem) (b : ScriptBody) : Type 0 where
   pub items_are : items_of b ≡ items
   pub tells : b.tells ≡ false
 
-pub record IsDefaultBody (b : ScriptBody) : Type 0 where
+-- a body of no items, which tells its end
+pub record IsDefaultScriptBody (b : ScriptBody) : Type 0 where
   pub items : items_of b ≡ []
   pub tells : b.tells ≡ true
 
+-- whether a body tells that it is at its end
 abbrev pub tells_end : ScriptBody → Bool
 tells_end b = b.tells && nat_le (length (items_of b)) 0
 
+-- what a body tells of its length: nothing
 abbrev pub hint_of : ScriptBody → ℕ × Option ℕ
 hint_of b = (0, None)
 
@@ -97,12 +104,10 @@ pub record NextItem (old : ScriptBody) (a : Poll (Option (Result (Frame (List �
   pub rest : items_of new ≡ drop 1 (items_of old)
   pub tells : new.tells ≡ old.tells
 
+-- what a poll of a body does; one without memory records nothing
 abbrev pub ScriptFrames : ScriptBody → Recorded → Moment → Answer (List ℕ) (List ℕ) → ScriptBody → Recorded → Type 0
 ScriptFrames old was m (Ok a) new now = NextItem old a new × (now ≡ was)
 ScriptFrames old was m (Err e) new now = now ≡ was
-
-abbrev pub ScriptAbandons : {S : Type 0} → S → Recorded → Moment → Result Unit NoMemory → Recorded → Type 0
-ScriptAbandons old was m answer now = (answer ≡ Ok tt) × (now ≡ was)
 
 -- the head of a scripted response: its status and its headers
 pub record IsReplyHead (status : ℕ) (headers : Headers) (head : ResponseHead Ext) : Type 0 where
@@ -144,6 +149,7 @@ abbrev pub Responds : Option PollItem → ScriptFuture → Recorded → ScriptAn
 Responds None old was a new now = (a ≡ Pending) × (new.body ≡ old.body) × (now ≡ was)
 Responds (Some item) old was a new now = Answers item.then a × Asked item.asks old.body was new.body now
 
+-- the next item of the future is answered, and its panic is none
 pub record NextPoll (old : ScriptFuture) (was : Recorded) (a : ScriptAnswer) (new : ScriptFuture) (now : Recorded) : Type 0 where
   pub responds : Responds (slice_get (polls_of old) 0) old was a new now
   pub rest : polls_of new ≡ drop 1 (polls_of old)
@@ -158,6 +164,7 @@ PollsBy None old was a new now = NextPoll old was a new now
 abbrev pub Extends : Recorded → Recorded → Type 0
 Extends was now = (es : List Event) × (now.log ≡ was.log ++ es) × (now.rest ≡ was.rest)
 
+-- what a poll of a future does; one without memory may have recorded what was handed
 abbrev pub ScriptPolls : ScriptFuture → Recorded → Moment → Reply ScriptBody Ext (Fault (List ℕ)) → ScriptFuture → Recorded → Type 0
 ScriptPolls old was m (Ok a) new now = PollsBy old.panic old was a new now
 ScriptPolls old was m (Err e) new now = Extends was now
@@ -185,6 +192,7 @@ pub record IsRequestOf (script : ScriptView) (i : ℕ) (r : Request ScriptBody E
   pub head : IsHeadFor (codes "GET") (λ uri. HasParts uri None None (codes "/")) (record r.head.parts { headers = [] })
   pub headers_are : r.head.parts.headers ≡ map_of script.headers
   pub numbered : IsNumbered i r
+  pub no_id : ext_id r.head.ext ≡ None
   pub body : IsRequestBody script.body r.body
 
 -- the script of a number; without one it serves and has no poll items
@@ -192,23 +200,27 @@ abbrev pub script_for : List ScriptView → Option Number → Option ScriptView
 script_for scripts None = None
 script_for scripts (Some i) = slice_get scripts i.0
 
+-- the poll items of that script
 abbrev pub polls_for : Option ScriptView → List PollItem
 polls_for None = []
 polls_for (Some script) = script.polls
 
+-- the panic of a call
 abbrev pub panic_of : CallItem → Option PanicText
 panic_of call_item.Serve = None
 panic_of (call_item.Panic text) = Some text
 
+-- the panic of that script's call
 abbrev pub panic_for : Option ScriptView → Option PanicText
 panic_for None = None
 panic_for (Some script) = panic_of script.call
 
+-- the service is always ready, and says so without a change or a record
 abbrev pub ScriptReadies : SharedScripts → Recorded → Moment → Poll (Result Unit (Fault (List ℕ))) → SharedScripts → Recorded → Type 0
 ScriptReadies old was m answer new now = (answer ≡ Ready (Ok tt)) × (new ≡ old) × (now ≡ was)
 
 -- the future has all poll items of the request's script, the panic of its call, and the request's body
-pub record IsBegun (found : Option ScriptView) (body : Limited ScriptBody) (f : ScriptFuture) : Type 0 where
+pub record IsFutureOf (found : Option ScriptView) (body : Limited ScriptBody) (f : ScriptFuture) : Type 0 where
   pub polls : polls_of f ≡ polls_for found
   pub panic : f.panic ≡ panic_for found
   pub body_is : f.body ≡ body
@@ -216,6 +228,6 @@ pub record IsBegun (found : Option ScriptView) (body : Limited ScriptBody) (f : 
 -- the service keeps its scripts
 pub record ScriptCalls (old : SharedScripts) (req : Request (Limited ScriptBody) Ext) (was : Recorded) (m : Moment)
     (answer : Result ScriptFuture NoMemory) (new : SharedScripts) (now : Recorded) : Type 0 where
-  pub begun : IfOk answer (IsBegun (script_for old req.head.ext.number) req.body)
+  pub begun : IfOk answer (IsFutureOf (script_for old req.head.ext.number) req.body)
   pub same : new ≡ old
   pub unrecorded : now ≡ was

@@ -20,6 +20,7 @@ pub record Signs : Type 0 where
   pub ending : Bool
   pub kind : DropKind
 
+-- the same of these acts
 abbrev pub signs : Limits → Numbered → List Own → Signs
 signs limits request acts = record {
   called = called_at acts;
@@ -45,6 +46,7 @@ pub record AwaitedAfter (limits : Limits) (request : Numbered) (s : Signs) (t0 :
   pub no_ending : s.ending ≡ false
   pub kind : s.kind ≡ drop_kind.Future
 
+-- the reply of a plan
 abbrev pub reply_of : Plan → ReplyView
 reply_of plan = record { status = plan.0.0; headers = plan.0.1; body = plan.1.1.items; tells = plan.1.1.tells }
 
@@ -76,11 +78,13 @@ pub record OverAfter (limits : Limits) (request : Numbered) (s : Signs) : Type 0
 abbrev pub Key : Type 0
 Key = Limits × Numbered
 
+-- what is so of these signs, by how far the request has come
 abbrev pub SignsOf : Key → Signs → Course Plan → Type 0
 SignsOf k s Fresh = FreshAfter s
 SignsOf k s (Awaited t0 past) = AwaitedAfter k.0 k.1 s t0 past
 SignsOf k s (Streamed t0 plan past) = StreamedAfter k.0 k.1 s t0 plan past
 SignsOf k s Over = OverAfter k.0 k.1 s
 
+-- the same of the acts
 abbrev pub StoryAfter : Key → List Own → Course Plan → Type 0
 StoryAfter k acts c = SignsOf k (signs k.0 k.1 acts) c

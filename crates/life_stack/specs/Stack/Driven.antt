@@ -1,27 +1,25 @@
 -- The driven stack: its calls, where its values stand after some polls, and what their histories are.
-use Rattle.std.specs.Prelude.{◌≡◌, ℕ, Bool, List, [], Some, Result, ◌-◌, ◌∷◌, ⊤}
+use Rattle.std.specs.Prelude.{◌≡◌, ℕ, Bool, List, [], Some, Result, ◌-◌, ◌∷◌, ⊤, IfSome, IsSomeAnd}
 use Rattle.life_core.specs.History.{BodyHistory, Said, FutureHistory, Where}
-use Rattle.life_core.specs.Calls.{Answer, Reply}
-use Rattle.life_core.specs.Moment.{Moment}
-use Rattle.life_core.specs.Recorded.{Recorded}
+use Rattle.life_core.specs.Calls.{Abandons, AbandonsIfAny, Calls, Frames, NothingToAbandon, Polls}
 use Rattle.life_core.specs.declared.body.BodyError.{BodyError}
 use Rattle.life_core.specs.declared.event.DropKind.TheVariants as drop_kind
 use Rattle.life_core.specs.declared.message.Request.{Request}
-use Rattle.life_core.specs.declared.recorder.NoMemory.{NoMemory}
-use Rattle.life_drop.specs.EarlyBody.{EarlyBodyAbandons, EarlyBodyMay, EarlyFrames, early_ends}
+use Rattle.life_core.specs.declared.message.Response.{Response}
+use Rattle.life_drop.specs.EarlyBody.{EarlyBodyAbandons, EarlyBodyMay, EarlyFrames}
 use Rattle.life_drop.specs.EarlyFuture.{EarlyFutureLive, EarlyFutureMay, EarlyAbandons, EarlyPolls}
 use Rattle.life_drop.specs.EarlyService.{EarlyCalls, EarlyMay}
 use Rattle.life_drop.specs.Note.{NotesBody, NotesDrop, NotesFuture, NotesStart, drop_record, noting}
-use Rattle.life_drop.specs.History.{DropBodyStands, DropServes, DropStands, drop_body_history, drop_history}
+use Rattle.life_drop.specs.History.{DropBodyStands, DropStands, drop_body_history, drop_history}
 use Rattle.life_drop.specs.declared.on_early_drop.body.OnEarlyDropBody.{OnEarlyDropBody}
 use Rattle.life_drop.specs.declared.on_early_drop.future.OnEarlyDropFuture.{OnEarlyDropFuture}
 use Rattle.life_drop.specs.declared.on_early_drop.note.NoteDrop.{NoteDrop}
 use Rattle.life_drop.specs.declared.on_early_drop.note.NoteDropped.{NoteDropped}
 use Rattle.life_drop.specs.declared.on_early_drop.service.OnEarlyDropService.{OnEarlyDropService}
-use Rattle.life_time.specs.DeadlineBody.{DeadlineBodyAbandons, DeadlineBodyMay, DeadlineFrames, deadline_ends}
-use Rattle.life_time.specs.DeadlineService.{DeadlineCalls, DeadlineFutureMay, DeadlineAbandons, DeadlineMay, DeadlinePolls}
+use Rattle.life_time.specs.DeadlineBody.{DeadlineFrames}
+use Rattle.life_time.specs.DeadlineService.{DeadlineCalls, DeadlinePolls}
 use Rattle.life_time.specs.History.{DeadlineBodyStands, DeadlineServes, DeadlineStands, TimeoutServes, TimeoutStands, deadline_body_history, deadline_history, timeout_history}
-use Rattle.life_time.specs.Timeout.{TimeoutCalls, TimeoutFutureLive, TimeoutFutureMay, TimeoutAbandons, TimeoutMay, TimeoutPolls}
+use Rattle.life_time.specs.Timeout.{TimeoutCalls, TimeoutPolls}
 use Rattle.life_time.specs.declared.timeout.deadline_body.DeadlineBody.{DeadlineBody}
 use Rattle.life_time.specs.declared.timeout.deadline_service.ResponseBodyDeadline.{ResponseBodyDeadline}
 use Rattle.life_time.specs.declared.timeout.deadline_service.ResponseBodyDeadlineFuture.{ResponseBodyDeadlineFuture}
@@ -29,7 +27,7 @@ use Rattle.life_time.specs.declared.timeout.service.ResponseFuture.{ResponseFutu
 use Rattle.life_time.specs.declared.timeout.service.Timeout.{Timeout}
 use Rattle.http_header.specs.FieldValue.{FieldValue}
 use Rattle.life_head.specs.Ids.{NumberMakes, x_request_id_name}
-use Rattle.life_head.specs.Propagating.{PropagateCalls, PropagateFutureMay, PropagateAbandons, PropagateMay, PropagatePolls}
+use Rattle.life_head.specs.Propagating.{PropagateCalls, PropagatePolls}
 use Rattle.life_head.specs.Setting.{SetCalls, SetMay}
 use Rattle.life_head.specs.History.{PropagateServes, PropagateStands, SetServes, propagate_history}
 use Rattle.life_head.specs.declared.request_id.number.ByNumber.{ByNumber}
@@ -37,17 +35,15 @@ use Rattle.life_head.specs.declared.request_id.propagate.PropagateRequestId.{Pro
 use Rattle.life_head.specs.declared.request_id.propagating.PropagateRequestIdResponseFuture.{PropagateRequestIdResponseFuture}
 use Rattle.life_head.specs.declared.request_id.set.SetRequestId.{SetRequestId}
 use Rattle.life_core.specs.UnsyncBoxBody.{IsEmptyBox}
-use Rattle.life_core.specs.Limited.{LimitedAbandons, LimitedMay}
 use Rattle.life_core.specs.declared.body.limited.Limited.{Limited}
-use Rattle.life_gate.specs.Gate.{GateCalls, GateFutureLive, GateFutureMay, GateAbandons, GateMay, GatePolls}
-use Rattle.life_gate.specs.Judged.{Verdict}
+use Rattle.life_gate.specs.Gate.{GateCalls, GateKindAbandons, GateKindLive, GateKindMay, GateMay, GatePolls, Validates}
 use Rattle.life_gate.specs.Required.{RequiredValidates, required_of}
 use Rattle.life_gate.specs.History.{GateServes, GateStands}
 use Rattle.life_gate.specs.declared.validate_request.future.ResponseFuture.{ResponseFuture as GateFuture}
 use Rattle.life_gate.specs.declared.validate_request.required.RequiredHeaderValue.{RequiredHeaderValue}
 use Rattle.life_gate.specs.declared.validate_request.service.ValidateRequestHeader.{ValidateRequestHeader}
-use Rattle.life_limit.specs.Limit.{LimitCalls, LimitFutureMay, LimitAbandons, LimitMay, LimitPolls}
-use Rattle.life_limit.specs.LimitBody.{IsDefaultBody, LimitBodyFrames, LimitBodyAbandons, LimitBodyMay, limit_body_ends}
+use Rattle.life_limit.specs.Limit.{LimitCalls, LimitKindAbandons, LimitKindMay, LimitPolls}
+use Rattle.life_limit.specs.LimitBody.{IsDefaultLimitBody, LimitBodyFrames, LimitBodyAbandons, LimitBodyMay, limit_body_ends}
 use Rattle.life_limit.specs.History.{LimitBodyStands, LimitServes, LimitStands}
 use Rattle.life_limit.specs.declared.limit.body.ResponseBody.{ResponseBody}
 use Rattle.life_limit.specs.declared.limit.future.ResponseFuture.{ResponseFuture as LimitFuture}
@@ -57,7 +53,7 @@ use Rattle.life_script.specs.Reply.{ReplyView}
 use Rattle.life_script.specs.declared.scenario.Limits.{Limits}
 use Rattle.life_stack.specs.Table.Decision.{decision, forbidden_reply, is_shut, is_too_large}
 use Rattle.life_stack.specs.Table.Handed.{room}
-use Rattle.life_stack.specs.Service.Script.{IsDefaultExt, ext_id, ext_number, with_id, ScriptAbandons}
+use Rattle.life_stack.specs.Service.Script.{IsDefaultExt, ext_id, ext_number, with_id}
 use Rattle.life_stack.specs.Table.Story.{due_reply}
 use Rattle.life_stack.specs.declared.service.ext.Ext.{Ext}
 use Rattle.life_stack.specs.declared.service.body.ScriptBody.{ScriptBody}
@@ -66,7 +62,7 @@ use Rattle.life_stack.specs.Service.Caught.{Caught, caught_abandons, caught_may,
 
 -- THE TYPES.
 
--- the layers that may answer in the service's place, round it
+-- the layers that may answer in the service's place, round it, with their futures and bodies
 abbrev pub Inner : Type 0
 Inner = RequestBodyLimit (ValidateRequestHeader CaughtService (RequiredHeaderValue Caught))
 
@@ -76,6 +72,7 @@ InnerFuture = LimitFuture (GateFuture CaughtFuture Caught Ext)
 abbrev pub InnerBody : Type 0
 InnerBody = ResponseBody Caught
 
+-- all eight layers round the service, with the futures and bodies of the stack
 abbrev pub DriveStack : Type 0
 DriveStack = SetRequestId (OnEarlyDropService (ResponseBodyDeadline (Timeout (PropagateRequestId Inner))) NoteDrop NoteDrop) ByNumber
 
@@ -87,66 +84,79 @@ DriveBody = OnEarlyDropBody (DeadlineBody InnerBody) NoteDropped
 
 -- THE CALLS: each layer's meaning over that of the one below.
 
-abbrev pub gate_validates : RequiredHeaderValue Caught → Request (Limited ScriptBody) Ext → Verdict Caught Ext → RequiredHeaderValue Caught → Request (Limited ScriptBody) Ext → Type 0
+-- the gate asks for its value, and refuses with a body of nothing
+abbrev pub gate_validates : Validates (RequiredHeaderValue Caught) (Limited ScriptBody) Caught Ext
 gate_validates = RequiredValidates IsEmptyBox IsDefaultExt
 
-abbrev pub inner_calls : Inner → Request ScriptBody Ext → Recorded → Moment → Result InnerFuture NoMemory → Inner → Recorded → Type 0
-inner_calls = LimitCalls (GateCalls caught_calls gate_validates (LimitedAbandons ScriptAbandons) caught_abandons) ScriptAbandons
+-- the inner service, its futures and its bodies
+abbrev pub inner_calls : Calls Inner (Request ScriptBody Ext) InnerFuture
+inner_calls = LimitCalls (GateCalls caught_calls gate_validates NothingToAbandon caught_abandons) NothingToAbandon
 
-abbrev pub inner_polls : InnerFuture → Recorded → Moment → Reply InnerBody Ext (List ℕ) → InnerFuture → Recorded → Type 0
+abbrev pub inner_polls : Polls InnerFuture (Result (Response InnerBody Ext) (List ℕ))
 inner_polls = LimitPolls (GatePolls caught_polls) IsDefaultExt
 
-abbrev pub inner_abandons : InnerFuture → Recorded → Moment → Result Unit NoMemory → Recorded → Type 0
-inner_abandons = LimitAbandons (GateAbandons caught_future_abandons caught_abandons)
+abbrev pub inner_abandons : Abandons InnerFuture
+inner_abandons f = LimitKindAbandons (λ g. GateKindAbandons caught_future_abandons caught_abandons g.kind) f.kind
 
-abbrev pub inner_frames : InnerBody → Recorded → Moment → Answer (List ℕ) (List ℕ) → InnerBody → Recorded → Type 0
+abbrev pub inner_frames : Frames InnerBody (List ℕ) (List ℕ)
 inner_frames = LimitBodyFrames caught_frames
 
-abbrev pub inner_body_abandons : InnerBody → Recorded → Moment → Result Unit NoMemory → Recorded → Type 0
+abbrev pub inner_body_abandons : Abandons InnerBody
 inner_body_abandons = LimitBodyAbandons caught_abandons
 
 abbrev pub inner_ends : InnerBody → Bool
 inner_ends = limit_body_ends caught_ends
 
-abbrev pub IsDefaultInner : InnerBody → Type 0
-IsDefaultInner = IsDefaultBody IsEmptyBox
+-- what may be called, polled and abandoned of these
+abbrev pub InnerMay : Inner → Type 0
+InnerMay s = GateMay CaughtMay (λ _. ⊤) gate_validates (λ _. ⊤) caught_may s.inner
 
+abbrev pub InnerLive : InnerFuture → Type 0
+InnerLive f = LimitKindMay (λ g. GateKindLive CaughtFutureLive g.kind) f.kind
+
+abbrev pub InnerFutureMay : InnerFuture → Type 0
+InnerFutureMay f = LimitKindMay (λ g. GateKindMay CaughtFutureMay caught_may g.kind) f.kind
+
+-- the driven stack, its futures and its bodies
+abbrev pub drive_calls : Calls DriveStack (Request ScriptBody Ext) DriveFuture
+drive_calls = SetCalls (EarlyCalls (DeadlineCalls (TimeoutCalls (PropagateCalls inner_calls NothingToAbandon))) NotesFuture NotesStart NothingToAbandon) (NumberMakes ext_number) ext_id with_id NothingToAbandon
+
+abbrev pub drive_polls : Polls DriveFuture (Result (Response DriveBody Ext) (List ℕ))
+drive_polls = EarlyPolls (DeadlinePolls (TimeoutPolls (PropagatePolls inner_polls inner_body_abandons ext_id with_id) (λ f. inner_abandons f.inner) (IsDefaultLimitBody IsEmptyBox) IsDefaultExt))
+    NotesBody (λ b. inner_ends b.body) (λ b. inner_body_abandons b.body)
+
+abbrev pub drive_abandons : Abandons DriveFuture
+drive_abandons = EarlyAbandons (λ f. AbandonsIfAny (λ g. inner_abandons g.inner) f.inner.inner) NotesDrop
+
+abbrev pub drive_frames : Frames DriveBody (List ℕ) (BodyError (List ℕ))
+drive_frames = EarlyFrames (DeadlineFrames inner_frames) (λ b. inner_ends b.body)
+
+abbrev pub drive_body_abandons : Abandons DriveBody
+drive_body_abandons = EarlyBodyAbandons (λ b. inner_body_abandons b.body) NotesDrop
+
+abbrev pub drive_ends : DriveBody → Bool
+drive_ends b = inner_ends b.inner.body
+
+-- what may be called, polled and abandoned
 abbrev pub StackMay : DriveStack → Type 0
-StackMay = SetMay (EarlyMay (DeadlineMay (TimeoutMay (PropagateMay (LimitMay (GateMay CaughtMay (λ _. ⊤) gate_validates (LimitedMay (λ _. ⊤)) caught_may))))) (λ _. ⊤) (λ _. ⊤)) (λ _. ⊤)
+StackMay = SetMay (EarlyMay (λ s. InnerMay s.inner.inner.inner) (λ _. ⊤) (λ _. ⊤)) (λ _. ⊤)
 
 abbrev pub FutureLive : DriveFuture → Type 0
-FutureLive = EarlyFutureLive (DeadlineFutureMay (TimeoutFutureLive (PropagateFutureMay (LimitFutureMay (GateFutureLive CaughtFutureLive))))) (λ _. ⊤)
+FutureLive = EarlyFutureLive (λ f. IsSomeAnd f.inner.inner (λ g. InnerLive g.inner)) (λ _. ⊤)
 
 abbrev pub FutureMay : DriveFuture → Type 0
-FutureMay = EarlyFutureMay (DeadlineFutureMay (TimeoutFutureMay (PropagateFutureMay (LimitFutureMay (GateFutureMay CaughtFutureMay caught_may))))) (λ _. ⊤) (λ _. ⊤)
+FutureMay = EarlyFutureMay (λ f. IfSome f.inner.inner (λ g. InnerFutureMay g.inner)) (λ _. ⊤) (λ _. ⊤)
 
 abbrev pub BodyMay : DriveBody → Type 0
-BodyMay = EarlyBodyMay (DeadlineBodyMay (LimitBodyMay caught_may)) (λ _. ⊤)
-
-abbrev pub drive_calls : DriveStack → Request ScriptBody Ext → Recorded → Moment → Result DriveFuture NoMemory → DriveStack → Recorded → Type 0
-drive_calls = SetCalls (EarlyCalls (DeadlineCalls (TimeoutCalls (PropagateCalls inner_calls ScriptAbandons))) NotesFuture NotesStart ScriptAbandons) (NumberMakes ext_number) ext_id with_id ScriptAbandons
-
-abbrev pub drive_polls : DriveFuture → Recorded → Moment → Reply DriveBody Ext (List ℕ) → DriveFuture → Recorded → Type 0
-drive_polls = EarlyPolls (DeadlinePolls (TimeoutPolls (PropagatePolls inner_polls inner_body_abandons ext_id with_id) (PropagateAbandons inner_abandons) IsDefaultInner IsDefaultExt)) NotesBody (deadline_ends inner_ends) (DeadlineBodyAbandons inner_body_abandons)
-
-abbrev pub drive_abandons : DriveFuture → Recorded → Moment → Result Unit NoMemory → Recorded → Type 0
-drive_abandons = EarlyAbandons (DeadlineAbandons (TimeoutAbandons (PropagateAbandons inner_abandons))) NotesDrop
-
-abbrev pub drive_frames : DriveBody → Recorded → Moment → Answer (List ℕ) (BodyError (List ℕ)) → DriveBody → Recorded → Type 0
-drive_frames = EarlyFrames (DeadlineFrames inner_frames) (deadline_ends inner_ends)
-
-abbrev pub drive_body_abandons : DriveBody → Recorded → Moment → Result Unit NoMemory → Recorded → Type 0
-drive_body_abandons = EarlyBodyAbandons (DeadlineBodyAbandons inner_body_abandons) NotesDrop
-
--- whether the body tells its end
-abbrev pub drive_ends : DriveBody → Bool
-drive_ends = early_ends (deadline_ends inner_ends)
+BodyMay = EarlyBodyMay (λ b. LimitBodyMay caught_may b.body) (λ _. ⊤)
 
 -- THE LAYERS ROUND IT that may answer in its place: each poll is answered and recorded by the decision.
 
+-- what is said at poll k, by the decision for the request
 abbrev pub service_says : Limits → Numbered → ℕ → Said Head BodyPlan (List ℕ)
 service_says limits request k = decided_says (decision limits request) request.script.polls k
 
+-- what is said and recorded at each poll of the request, by that decision
 abbrev pub service_history : Limits → Numbered → FutureHistory Head BodyPlan (List ℕ)
 service_history limits request = caught_history (decision limits request) (room limits request.script) request.script
 
@@ -158,9 +168,11 @@ AsksGate limits v = v ≡ required_of limits.gate_name limits.gate_value
 abbrev pub InnerServes : Limits → Numbered → Inner → Type 0
 InnerServes limits request = LimitServes limits.byte_limit (GateServes (AsksGate limits) (CaughtServes request.script request.number))
 
+-- the head of the gate's refusal
 abbrev pub forbidden_head : Head
 forbidden_head = (forbidden_reply.status, forbidden_reply.headers)
 
+-- a future of these layers: a refusal for the length, a refusal of the gate, or the future of the script
 abbrev pub InnerStands : Limits → Numbered → InnerFuture → Where → Type 0
 InnerStands limits request =
     LimitStands (is_too_large limits request.script) (GateStands (is_shut limits request) Heads CaughtStands forbidden_head (body_plan forbidden_reply) (CaughtFutureStands (room limits request.script) request.script))
@@ -178,8 +190,8 @@ named id h = (h.0, identified id h.1)
 -- a stack set for these limits over a service that finds this script for its number
 abbrev pub StackStands : Limits → Numbered → DriveStack → Type 0
 StackStands limits request =
-    SetServes x_request_id_name (λ _. ⊤) (DropServes (DeadlineServes limits.body_deadline
-    (TimeoutServes limits.timeout limits.timeout_status (PropagateServes x_request_id_name (InnerServes limits request)))))
+    SetServes x_request_id_name (λ _. ⊤) (λ s. DeadlineServes limits.body_deadline
+    (TimeoutServes limits.timeout limits.timeout_status (PropagateServes x_request_id_name (InnerServes limits request))) s.inner)
 
 -- a future of a request that was called at t0
 abbrev pub FutureStands : Limits → Numbered → ℕ → DriveFuture → Where → Type 0
@@ -191,6 +203,7 @@ FutureStands limits request t0 =
 abbrev pub Plan : Type 0
 Plan = Head × (ℕ × BodyPlan)
 
+-- what such a future says and records at each poll, and what abandoning it records
 abbrev pub future_history : Limits → Numbered → ℕ → FutureHistory Head Plan (List ℕ)
 future_history limits request t0 =
     drop_history (λ t. drop_record drop_kind.Future (t - t0) ∷ [])
@@ -201,11 +214,14 @@ future_history limits request t0 =
 abbrev pub timed_body_history : ℕ → ℕ × BodyPlan → BodyHistory (List ℕ) (BodyError (List ℕ))
 timed_body_history deadline = deadline_body_history deadline script_body_history
 
+-- the plan of a response by this reply, given at ph
 abbrev pub plan : ReplyView → ℕ → Plan
 plan reply ph = ((reply.status, reply.headers), (ph, body_plan reply))
 
+-- a body of a response to a request that was called at t0, by the body's plan
 abbrev pub BodyStands : Limits → ℕ → Plan → DriveBody → List ℕ → Type 0
 BodyStands limits t0 = DropBodyStands (λ (h : Head). noting (drop_kind.Body h.0) t0) (timed_body_history limits.body_deadline) (DeadlineBodyStands limits.body_deadline InnerBodyStands)
 
+-- what such a body gives and records at each poll, and what abandoning it records
 abbrev pub body_history : Limits → ℕ → Plan → BodyHistory (List ℕ) (BodyError (List ℕ))
 body_history limits t0 = drop_body_history (λ (h : Head) q. drop_record (drop_kind.Body h.0) (q - t0) ∷ []) (timed_body_history limits.body_deadline)

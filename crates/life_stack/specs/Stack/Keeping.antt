@@ -13,6 +13,7 @@ use Rattle.life_stack.specs.Table.Story.{story_table}
 use Rattle.life_stack.specs.declared.service.ext.Ext.{Ext}
 use Rattle.life_stack.specs.declared.service.body.ScriptBody.{ScriptBody}
 
+-- what a future and a body of a request answer and record at each poll
 abbrev pub drive_histories : Histories Key Head Plan
 drive_histories = record {
   called = λ k. [];
@@ -21,6 +22,7 @@ drive_histories = record {
   shown = λ said. (said.0, shown_headers said.1);
 }
 
+-- where the service, a future and a body stand for a request
 abbrev pub drive_standing : Standing Key Head Plan DriveStack (Request ScriptBody Ext) DriveFuture DriveBody Ext
 drive_standing = record {
   serves = λ k s. StackStands k.0 k.1 s;
@@ -30,12 +32,15 @@ drive_standing = record {
   body = λ k t0. BodyStands k.0 t0;
 }
 
+-- the same by the acts so far
 abbrev pub drive_places : Places Key DriveStack (Request ScriptBody Ext) DriveFuture DriveBody
 drive_places = course_places drive_standing StoryAfter
 
+-- the table that is kept: the story of each request
 abbrev pub drive_table : Key → Table
 drive_table k = story_table k.0 k.1
 
+-- all that a session asks of a stack that keeps a table
 abbrev pub drive_meaning : Meaning Key Limits DriveStack (Request ScriptBody Ext) DriveFuture DriveBody
 drive_meaning = record {
   places = drive_places;

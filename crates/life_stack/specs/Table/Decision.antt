@@ -27,6 +27,7 @@ pub data Decision : Type 0 where
 abbrev pub declared_by : ScriptView → Option ℕ
 declared_by script = length_told (first_value (codes "content-length") script.headers)
 
+-- whether that length is above the limit
 abbrev pub is_too_large : Limits → ScriptView → Bool
 is_too_large limits script = is_above limits.byte_limit (declared_by script)
 
@@ -38,6 +39,7 @@ seen_headers request = identified (ident request) request.script.headers
 abbrev pub is_shut : Limits → Numbered → Bool
 is_shut limits request = not (matches_first limits.gate_value (first_value limits.gate_name (seen_headers request)))
 
+-- what the call of the service decides
 abbrev pub called_by : CallItem → Decision
 called_by call_item.Serve = Served
 called_by (call_item.Panic text) = Panicked text
@@ -48,6 +50,7 @@ decided true shut call = TooLarge
 decided false true call = Forbidden
 decided false false call = called_by call
 
+-- what is decided for a request, in the order of the layers
 abbrev pub decision : Limits → Numbered → Decision
 decision limits request = decided (is_too_large limits request.script) (is_shut limits request) request.script.call
 
@@ -62,9 +65,11 @@ text_reply status text = record {
   tells = true;
 }
 
+-- what answers a body that is told to be too large, and what tells a panic
 abbrev pub too_large_reply : ReplyView
 too_large_reply = text_reply 413 (codes "length limit exceeded")
 
+-- the reply of a panic that was caught
 abbrev pub panic_reply : ReplyView
 panic_reply = text_reply 500 (codes "Service panicked")
 
@@ -72,5 +77,6 @@ panic_reply = text_reply 500 (codes "Service panicked")
 abbrev pub bare_reply : ℕ → ReplyView
 bare_reply status = record { status = status; headers = []; body = []; tells = true }
 
+-- what answers a request that the gate is shut to
 abbrev pub forbidden_reply : ReplyView
 forbidden_reply = bare_reply 403

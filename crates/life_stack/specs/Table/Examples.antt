@@ -71,8 +71,8 @@ abbrev quiet : Answer → TurnView
 quiet a = record { answer = a; events = [] }
 
 -- a turn with its events
-abbrev telling : Answer → List Event → TurnView
-telling a es = record { answer = a; events = es }
+abbrev recording : Answer → List Event → TurnView
+recording a es = record { answer = a; events = es }
 
 read_to_its_end : story limits (numbered 0 (ready (body_item.Chunk (104 ∷ 105 ∷ []) ∷ []))) ((0, act.Call) ∷ (3, act.Poll) ∷ (4, act.Poll) ∷ (5, act.Drop) ∷ []) 5
     ≡ record {
@@ -95,7 +95,7 @@ never_answered = refl
 dropped_while_it_waits : story limits (numbered 0 waiting) ((0, act.Call) ∷ (1, act.Poll) ∷ (6, act.Drop) ∷ []) 6
     ≡ record {
       turns = quiet ans.Called ∷ quiet (ans.Response 201 (own_id 0 ∷ []) false)
-          ∷ telling ans.Dropped (event.Dropped (drop_kind.Body 201) (record { unit = Nanos; nanos = 6 }) ∷ []) ∷ [];
+          ∷ recording ans.Dropped (event.Dropped (drop_kind.Body 201) (record { unit = Nanos; nanos = 6 }) ∷ []) ∷ [];
       at_end = [];
     }
 dropped_while_it_waits = refl
@@ -156,7 +156,7 @@ longer = record {
 longer_than_told : story limits (numbered 0 longer) ((0, act.Call) ∷ (1, act.Poll) ∷ []) 1
     ≡ record {
       turns = quiet ans.Called
-          ∷ telling (ans.Response 200 (own_id 0 ∷ []) true) (handing (handed.Chunk (codes "abc")) ∷ handing (handed.Chunk (codes "de")) ∷ handing handed.LengthLimit ∷ []) ∷ [];
+          ∷ recording (ans.Response 200 (own_id 0 ∷ []) true) (handing (handed.Chunk (codes "abc")) ∷ handing (handed.Chunk (codes "de")) ∷ handing handed.LengthLimit ∷ []) ∷ [];
       at_end = [];
     }
 longer_than_told = refl
@@ -167,7 +167,7 @@ in_one_piece = record { headers = let_through []; body = body_item.Chunk (codes 
 
 longer_than_allowed : story limits (numbered 0 in_one_piece) ((0, act.Call) ∷ (1, act.Poll) ∷ []) 1
     ≡ record {
-      turns = quiet ans.Called ∷ telling ans.Pending (handing handed.LengthLimit ∷ handing handed.End ∷ []) ∷ [];
+      turns = quiet ans.Called ∷ recording ans.Pending (handing handed.LengthLimit ∷ handing handed.End ∷ []) ∷ [];
       at_end = event.Dropped drop_kind.Future (record { unit = Nanos; nanos = 1 }) ∷ [];
     }
 longer_than_allowed = refl
@@ -183,7 +183,7 @@ two_told = record {
 
 length_told_is_the_room : story limits (numbered 0 two_told) ((0, act.Call) ∷ (1, act.Poll) ∷ []) 1
     ≡ record {
-      turns = quiet ans.Called ∷ telling ans.Pending (handing (handed.Chunk (codes "ab")) ∷ handing handed.LengthLimit ∷ []) ∷ [];
+      turns = quiet ans.Called ∷ recording ans.Pending (handing (handed.Chunk (codes "ab")) ∷ handing handed.LengthLimit ∷ []) ∷ [];
       at_end = event.Dropped drop_kind.Future (record { unit = Nanos; nanos = 1 }) ∷ [];
     }
 length_told_is_the_room = refl
@@ -196,7 +196,7 @@ panicking = record { headers = let_through []; body = []; call = call_item.Panic
 
 panic_of_the_call : story limits (numbered 0 panicking) ((0, act.Call) ∷ (1, act.Poll) ∷ (2, act.Poll) ∷ []) 2
     ≡ record {
-      turns = quiet ans.Called ∷ telling (ans.Response 500 text_fields false) (event.Panic Error (Known (codes "boom")) ∷ []) ∷ quiet (ans.Frame (seen.Chunk (codes "Service panicked")) true) ∷ [];
+      turns = quiet ans.Called ∷ recording (ans.Response 500 text_fields false) (event.Panic Error (Known (codes "boom")) ∷ []) ∷ quiet (ans.Frame (seen.Chunk (codes "Service panicked")) true) ∷ [];
       at_end = [];
     }
 panic_of_the_call = refl
@@ -204,7 +204,7 @@ panic_of_the_call = refl
 -- one that panics at a poll, with no text
 panic_of_a_poll : story limits (numbered 0 (scripted (at_once (then_.Panic Unknown) ∷ []))) ((0, act.Call) ∷ (1, act.Poll) ∷ []) 1
     ≡ record {
-      turns = quiet ans.Called ∷ telling (ans.Response 500 text_fields false) (event.Panic Error Unknown ∷ []) ∷ [];
+      turns = quiet ans.Called ∷ recording (ans.Response 500 text_fields false) (event.Panic Error Unknown ∷ []) ∷ [];
       at_end = event.Dropped (drop_kind.Body 500) (record { unit = Nanos; nanos = 1 }) ∷ [];
     }
 panic_of_a_poll = refl

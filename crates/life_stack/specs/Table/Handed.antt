@@ -59,21 +59,25 @@ asked_before polls zero = 0
 asked_before [] (suc k) = 0
 asked_before (item ∷ items) (suc k) = item.asks + asked_before items k
 
+-- how often an item, or none, asks
 abbrev pub asks_of : Option PollItem → ℕ
 asks_of None = 0
 asks_of (Some item) = item.asks
 
 -- WHAT A POLL RECORDS that reaches the service.
 
+-- the record of a panic
 abbrev pub panic_event : PanicText → Event
 panic_event text = event.Panic level.Error text
 
+-- what an item records: its panic, if it is one
 abbrev pub panic_in : Then → List Event
 panic_in then_.Pending = []
 panic_in (then_.Panic text) = panic_event text ∷ []
 panic_in (then_.Fail error) = []
 panic_in (then_.Respond reply) = []
 
+-- the same of an item, or of none past the list
 abbrev pub panic_at : Option PollItem → List Event
 panic_at None = []
 panic_at (Some item) = panic_in item.then
@@ -82,17 +86,20 @@ panic_at (Some item) = panic_in item.then
 abbrev pub served_events : ℕ → ScriptView → ℕ → List Event
 served_events left script k = handed_from left script.body (asked_before script.polls k) (asks_of (slice_get script.polls k)) ++ panic_at (slice_get script.polls k)
 
+-- what poll k records, by the decision; a service that is not called records nothing
 abbrev pub decided_events : Decision → ℕ → ScriptView → ℕ → List Event
 decided_events TooLarge left script k = []
 decided_events Forbidden left script k = []
 decided_events (Panicked text) left script k = panic_event text ∷ []
 decided_events Served left script k = served_events left script k
 
+-- what poll k records, by the decision for the request
 abbrev pub service_events : Limits → Numbered → ℕ → List Event
 service_events limits request k = decided_events (decision limits request) (room limits request.script) request.script k
 
--- how many bytes of a request's body were handed
+-- HOW MANY BYTES of a request's body were handed.
 
+-- how many bytes were handed by one ask
 abbrev pub bytes_of : Handed → ℕ
 bytes_of (handed.Chunk bytes) = length bytes
 bytes_of (handed.Trailers trailers) = 0
@@ -102,11 +109,12 @@ bytes_of handed.LengthLimit = 0
 bytes_of handed.Elapsed = 0
 bytes_of (handed.Inner text) = 0
 
+-- of one record, and of all of these
 abbrev pub event_bytes : Event → ℕ
-event_bytes (event.Panic level text) = 0
 event_bytes (event.Handed got) = bytes_of got
-event_bytes (event.Dropped what latency) = 0
+event_bytes other = 0
 
+-- how many bytes these events hand
 abbrev pub handed_bytes : List Event → ℕ
 handed_bytes [] = 0
 handed_bytes (e ∷ es) = event_bytes e + handed_bytes es

@@ -19,6 +19,7 @@ pub record Numbered : Type 0 where
   pub number : ℕ
   pub script : ScriptView
 
+-- script i of a scenario
 abbrev pub numbered : ℕ → ScriptView → Numbered
 numbered i script = record { number = i; script = script }
 

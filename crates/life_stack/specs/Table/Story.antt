@@ -60,6 +60,7 @@ outcome_in id (then_.Panic text) = Some (Replied (replied id panic_reply))
 outcome_in id (then_.Fail error) = Some (Failed error)
 outcome_in id (then_.Respond reply) = Some (Replied (replied id reply))
 
+-- what this item gives, or else what a later one does
 abbrev pub here_or_later : Option Outcome → Option (ℕ × Outcome) → Option (ℕ × Outcome)
 here_or_later (Some o) rest = Some (0, o)
 here_or_later None rest = later rest
@@ -137,6 +138,7 @@ by_first_answer limits ps k (Some (h, o)) =
     else (if k == h then outcome_answer o
     else later_answer limits o (slice_index ps h) (slice_index ps k) (k - suc h))
 
+-- what poll k answers, of these polls
 abbrev pub poll_answer : Limits → Numbered → ℕ → List ℕ → ℕ → Answer
 poll_answer limits request t0 ps k = by_first_answer limits ps k (first_answer limits request t0 ps)
 
@@ -145,6 +147,7 @@ abbrev pub on_call : Option ℕ → Answer
 on_call None = ans.Called
 on_call (Some t0) = ans.Idle
 
+-- what poll k answers, of these polls, by the same two times
 abbrev pub on_poll : Limits → Numbered → Option ℕ → Option ℕ → List ℕ → ℕ → Answer
 on_poll limits request None d ps k = ans.Idle
 on_poll limits request (Some t0) (Some d) ps k = ans.Idle
@@ -156,6 +159,7 @@ drop_answer None = ans.Dropped
 drop_answer (Some (h, Replied reply)) = ans.Dropped
 drop_answer (Some (h, Failed error)) = ans.Idle
 
+-- what a Drop answers, by the same two times
 abbrev pub on_drop : Limits → Numbered → Option ℕ → Option ℕ → List ℕ → Answer
 on_drop limits request None d ps = ans.Idle
 on_drop limits request (Some t0) (Some d) ps = ans.Idle
@@ -167,10 +171,12 @@ answer limits request before (t, act.Call) = on_call (called_at before)
 answer limits request before (t, act.Poll) = on_poll limits request (called_at before) (dropped_at before) (polls before ++ t ∷ []) (length (polls before))
 answer limits request before (t, act.Drop) = on_drop limits request (called_at before) (dropped_at before) (polls before)
 
+-- the answers of these acts, in order, behind the acts before them
 abbrev pub answers_after : Limits → Numbered → List Own → List Own → List Answer
 answers_after limits request before [] = []
 answers_after limits request before (x ∷ acts) = answer limits request before x ∷ answers_after limits request (before ++ x ∷ []) acts
 
+-- what the acts answer, one after another
 abbrev pub answers : Limits → Numbered → List Own → List Answer
 answers limits request acts = answers_after limits request [] acts
 
@@ -188,6 +194,7 @@ is_ending ans.End = true
 is_ending (ans.Fault fault) = true
 is_ending ans.Dropped = false
 
+-- whether one of these is an ending answer
 abbrev pub any_ending : List Answer → Bool
 any_ending [] = false
 any_ending (a ∷ rest) = is_ending a || any_ending rest
@@ -204,6 +211,7 @@ kind_after what ans.End = what
 kind_after what (ans.Fault fault) = what
 kind_after what ans.Dropped = what
 
+-- the same after all of these answers
 abbrev pub kind_of : DropKind → List Answer → DropKind
 kind_of what [] = what
 kind_of what (a ∷ rest) = kind_of (kind_after what a) rest
@@ -213,6 +221,7 @@ abbrev pub drops_at : Option ℕ → List Answer → ℕ → List Event
 drops_at None given d = []
 drops_at (Some t0) given d = if any_ending given then [] else event.Dropped (kind_of drop_kind.Future given) (record { unit = Nanos; nanos = since t0 d }) ∷ []
 
+-- the early drops of a request with these acts, dropped at d: one at most
 abbrev pub drops : Limits → Numbered → List Own → ℕ → List Event
 drops limits request acts d = drops_at (called_at acts) (answers limits request acts) d
 
@@ -227,6 +236,7 @@ abbrev pub poll_events : Limits → Numbered → ℕ → ℕ → ℕ → Option 
 poll_events limits request t0 k t None = undue_events limits request t0 k t
 poll_events limits request t0 k t (Some (h, o)) = if nat_le k h then undue_events limits request t0 k t else []
 
+-- what is recorded by poll k, of these polls, by the times of the first Call and the first Drop
 abbrev pub on_poll_events : Limits → Numbered → Option ℕ → Option ℕ → List ℕ → ℕ → ℕ → List Event
 on_poll_events limits request None d ps k t = []
 on_poll_events limits request (Some t0) (Some d) ps k t = []
@@ -255,24 +265,27 @@ abbrev pub unless_dropped : Option ℕ → List Event → List Event
 unless_dropped None es = es
 unless_dropped (Some d) es = []
 
+-- what is recorded at the end of the scenario
 abbrev pub at_end : Limits → Numbered → List Own → ℕ → List Event
 at_end limits request acts end = unless_dropped (dropped_at acts) (drops limits request acts end)
 
 -- THE STORY: the turns of all acts, and what is recorded at the end.
 
+-- the table of a request: the answer and the records of each act, and the records at the end
 abbrev pub story_table : Limits → Numbered → Table
 story_table limits request = record { answer = answer limits request; events = events limits request; at_end = at_end limits request }
 
+-- the story of a request with these acts, in a scenario that ends at this time
 abbrev pub story : Limits → Numbered → List Own → ℕ → ToldView
 story limits request acts end = story_by (story_table limits request) acts end
 
 -- the early-drop records among what was told, in order
 abbrev pub dropped_in : List Event → List Event
 dropped_in [] = []
-dropped_in (event.Panic level text ∷ es) = dropped_in es
-dropped_in (event.Handed got ∷ es) = dropped_in es
 dropped_in (event.Dropped what latency ∷ es) = event.Dropped what latency ∷ dropped_in es
+dropped_in (other ∷ es) = dropped_in es
 
+-- the early drops that were told of a request
 abbrev pub drop_records : ToldView → List Event
 drop_records told = flat_map (λ (made : TurnView). dropped_in made.events) told.turns ++ dropped_in told.at_end
 
@@ -281,5 +294,6 @@ abbrev pub turns_bytes : List TurnView → ℕ
 turns_bytes [] = 0
 turns_bytes (made ∷ turns) = handed_bytes made.events + turns_bytes turns
 
+-- how many bytes of a request's body the service was handed, by what is told of the request
 abbrev pub body_bytes : ToldView → ℕ
 body_bytes told = turns_bytes told.turns + handed_bytes told.at_end

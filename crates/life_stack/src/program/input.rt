@@ -1,7 +1,7 @@
 //! Taking a source's bytes.
 ghost use Rattle.std.specs.Prelude.{◌≡◌, ◌≤◌, List, ℕ, Err};
 ghost use Rattle.std.specs.Io.KnownBytes.{Consumes};
-ghost use Rattle.life_core.specs.Faults.{Rose};
+ghost use Rattle.life_stack.specs.Program.Faults.{Faulted};
 ghost use Rattle.life_stack.specs.Program.Input.{IsTaken};
 
 use life_core::{Failed, Octets, Source};
@@ -26,8 +26,9 @@ pub enum Stopped {
 
 /// Takes a source's bytes to their end, or up to one byte more than the most that are taken.
 pub fn take_all<S: Source>(alloc: Global, source: &mut S) -> Result<Octets, Stopped>
-    ensures took { (taken : List ℕ) × Consumes (S.rest source.old) (S.rest source.new) taken × IsTaken taken (S.rest source.new) result }
-    ensures cause { result ≡ Err Stopped.Fault → Rose (S.faults source.old) (S.faults source.new) }
+    ensures took { (taken : List ℕ) × Consumes (S.rest source.old) (S.rest source.new) taken
+        × IsTaken taken (S.rest source.new) result }
+    ensures cause { result ≡ Err Stopped.Fault → Faulted S.faults source.old source.new }
     ensures later { S.faults source.old ≤ S.faults source.new }
     ensures reliable { S.reliable source.old → S.faults source.new ≡ S.faults source.old }
 {

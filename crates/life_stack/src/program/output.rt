@@ -1,6 +1,7 @@
 //! The output for the bytes of a source.
-ghost use Rattle.std.specs.Prelude.{◌≡◌, ◌++◌, List, ℕ, IfOk, codes, decimal};
+ghost use Rattle.std.specs.Prelude.{◌≡◌, List, ℕ, IfOk};
 ghost use Rattle.life_script.specs.Reading.{Reads};
+ghost use Rattle.life_stack.specs.Program.Lines.{refused_at};
 ghost use Rattle.life_stack.specs.Program.Output.{IsOutputFor};
 
 use crate::program::status::Status;
@@ -13,7 +14,9 @@ use std::alloc::Global;
 /// A text to be written, and the status of a run that writes it whole.
 #[derive(Drop)]
 pub struct Output {
+    /// The status of a run that writes the text whole.
     pub status: Status,
+    /// The bytes to be written.
     pub text: Octets,
 }
 
@@ -28,7 +31,7 @@ fn line(alloc: Global, status: Status, text: &str) -> Got<Output>
 /// The line of a refusal, with the number of what is refused.
 fn refusal(alloc: Global, why: &str, number: u64) -> Got<Output>
     ensures { IfOk result (λ output. (output.status ≡ Status.Refused)
-        × (output.text ≡ codes "refused: " ++ (why.now ++ (codes " " ++ (decimal number ++ codes "\n"))))) }
+        × (output.text ≡ refused_at why.now number)) }
 {
     let text = format!(in alloc; "refused: {why} {number}\n")?;
     line(alloc, Status::Refused, text.as_str())

@@ -1,13 +1,13 @@
 //! A run: words and a source in, a status and a text out.
 ghost use Rattle.std.specs.Prelude.{◌≡◌, ◌≤◌, ◌<◌, ◌-◌, ◌^◌, ◌⊎◌, List, ℕ, None, Some, length};
-ghost use Rattle.life_core.specs.Faults.{Rose};
 ghost use Rattle.life_script.specs.Scenario.{ScenarioView};
 ghost use Rattle.life_script.specs.declared.scenario.Limits.{Limits};
 ghost use Rattle.life_stack.specs.Stack.Drive.{report_of};
 ghost use Rattle.life_session.specs.Report.{report_text};
+ghost use Rattle.life_stack.specs.Program.Faults.{Faulted};
 ghost use Rattle.life_stack.specs.Program.Input.{most_bytes};
 ghost use Rattle.life_stack.specs.Program.Lines.{usage_line};
-ghost use Rattle.life_stack.specs.Program.Run.{RanOn, HasOutput, HasScenario};
+ghost use Rattle.life_stack.specs.Program.Run.{EndedEarly, RanOn, HasOutput, HasScenario};
 ghost use Rattle.life_stack.specs.Program.Words.{command};
 ghost use Rattle.life_stack.specs.Program.Writing.{IsSteady};
 
@@ -24,10 +24,10 @@ fn drive_source<S: Source, K: Sink>(alloc: Global, source: &mut S, sink: &mut K)
     ensures ran { (taken : List ℕ) × (output : List ℕ)
         × RanOn (Some Command.Drive) taken output (S.rest source.old) (S.rest source.new)
         (K.held sink.old) (K.held sink.new) result
-        × IsSteady (K.reliable sink.old) output (K.faults sink.old) (K.faults sink.new) }
-    ensures source_fault { result ≡ Status.SourceFault → Rose (S.faults source.old) (S.faults source.new) }
-    ensures sink_fault { result ≡ Status.SinkFault → Rose (K.faults sink.old) (K.faults sink.new) }
-    ensures unwritten { (result ≡ Status.SourceFault) ⊎ (result ≡ Status.NoMemory) → sink.new ≡ sink.old }
+        × IsSteady K.reliable K.faults output sink.old sink.new }
+    ensures source_fault { result ≡ Status.SourceFault → Faulted S.faults source.old source.new }
+    ensures sink_fault { result ≡ Status.SinkFault → Faulted K.faults sink.old sink.new }
+    ensures unwritten { EndedEarly result → sink.new ≡ sink.old }
     ensures source_later { S.faults source.old ≤ S.faults source.new }
     ensures sink_later { K.faults sink.old ≤ K.faults sink.new }
     ensures source_steady { S.reliable source.old → S.faults source.new ≡ S.faults source.old }
@@ -63,16 +63,20 @@ pub fn run<S: Source, K: Sink>(
     ensures ran { (taken : List ℕ) × (output : List ℕ)
         × RanOn (command words.now) taken output (S.rest source.old) (S.rest source.new)
         (K.held sink.old) (K.held sink.new) result
-        × IsSteady (K.reliable sink.old) output (K.faults sink.old) (K.faults sink.new) }
+        × IsSteady K.reliable K.faults output sink.old sink.new }
 
-    ensures usage { command words.now ≡ None → (result ≡ Status.Usage) ⊎ (result ≡ Status.SinkFault) }
+    // Words that are no command get the usage line, and nothing is read then.
+    ensures usage { command words.now ≡ None
+        → (result ≡ Status.Usage) ⊎ (result ≡ Status.SinkFault) }
     ensures usage_only { result ≡ Status.Usage → command words.now ≡ None }
     ensures unread { command words.now ≡ None → source.new ≡ source.old }
-    ensures unwritten { (result ≡ Status.SourceFault) ⊎ (result ≡ Status.NoMemory) → sink.new ≡ sink.old }
+
+    // A run that was stopped before it had an output writes nothing.
+    ensures unwritten { EndedEarly result → sink.new ≡ sink.old }
 
     // A fault is answered only where one was counted.
-    ensures source_fault { result ≡ Status.SourceFault → Rose (S.faults source.old) (S.faults source.new) }
-    ensures sink_fault { result ≡ Status.SinkFault → Rose (K.faults sink.old) (K.faults sink.new) }
+    ensures source_fault { result ≡ Status.SourceFault → Faulted S.faults source.old source.new }
+    ensures sink_fault { result ≡ Status.SinkFault → Faulted K.faults sink.old sink.new }
     ensures source_later { S.faults source.old ≤ S.faults source.new }
     ensures sink_later { K.faults sink.old ≤ K.faults sink.new }
     ensures source_steady { S.reliable source.old → S.faults source.new ≡ S.faults source.old }
@@ -81,17 +85,17 @@ pub fn run<S: Source, K: Sink>(
     // no valid scenario, and the line on wrong words.
     ensures complete { (limits : Limits) (scenario : ScenarioView)
         → command words.now ≡ Some Command.Drive → HasScenario (S.rest source.old) limits scenario
-        → ¬ Rose (S.faults source.old) (S.faults source.new) → ¬ Rose (K.faults sink.old) (K.faults sink.new)
+        → ¬ Faulted S.faults source.old source.new → ¬ Faulted K.faults sink.old sink.new
         → (result ≡ Status.Done) ⊎ (result ≡ Status.NoMemory) }
     ensures complete_each { (status : Status)
         → command words.now ≡ Some Command.Drive → HasOutput (S.rest source.old) status
-        → ¬ Rose (S.faults source.old) (S.faults source.new) → ¬ Rose (K.faults sink.old) (K.faults sink.new)
+        → ¬ Faulted S.faults source.old source.new → ¬ Faulted K.faults sink.old sink.new
         → (result ≡ status) ⊎ (result ≡ Status.NoMemory) }
     ensures complete_too_long { (bytes : List ℕ) → command words.now ≡ Some Command.Drive
         → S.rest source.old ≡ Some bytes → most_bytes < length bytes
-        → ¬ Rose (S.faults source.old) (S.faults source.new) → ¬ Rose (K.faults sink.old) (K.faults sink.new)
+        → ¬ Faulted S.faults source.old source.new → ¬ Faulted K.faults sink.old sink.new
         → (result ≡ Status.TooLong) ⊎ (result ≡ Status.NoMemory) }
-    ensures complete_usage { command words.now ≡ None → ¬ Rose (K.faults sink.old) (K.faults sink.new)
+    ensures complete_usage { command words.now ≡ None → ¬ Faulted K.faults sink.old sink.new
         → result ≡ Status.Usage }
 
     // The same of ends none of whose calls will fail.

@@ -23,11 +23,11 @@ pub enum Status {
 }
 
 impl Status {
-    ghost use Rattle.life_stack.specs.Program.Status.{number_of};
+    ghost use Rattle.life_stack.specs.Program.Status.{exit_number};
 
     /// The number that the process ends with.
     pub fn number(self) -> u8
-        ensures { result ≡ number_of self }
+        ensures { result ≡ exit_number self }
     {
         self as u8
     }

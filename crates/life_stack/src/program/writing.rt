@@ -1,7 +1,7 @@
 //! Writing a text whole.
 ghost use Rattle.std.specs.Prelude.{◌≡◌, ◌≢◌, ◌≤◌, OnOk, OnErr};
 ghost use Rattle.std.specs.Io.KnownBytes.{Appends};
-ghost use Rattle.life_core.specs.Faults.{Rose};
+ghost use Rattle.life_stack.specs.Program.Faults.{Faulted};
 ghost use Rattle.life_stack.specs.Program.Writing.{AppendsPrefix, IsAnswered, IsSteady};
 
 use crate::program::status::Status;
@@ -12,9 +12,9 @@ use life_core::{Failed, Sink};
 pub fn write_all<K: Sink>(sink: &mut K, bytes: &[u8]) -> Result<(), Failed>
     ensures whole { OnOk result (Appends (K.held sink.old) (K.held sink.new) bytes.now) }
     ensures prefix { OnErr result (AppendsPrefix (K.held sink.old) (K.held sink.new) bytes.now) }
-    ensures cause { OnErr result (Rose (K.faults sink.old) (K.faults sink.new)) }
+    ensures cause { OnErr result (Faulted K.faults sink.old sink.new) }
     ensures later { K.faults sink.old ≤ K.faults sink.new }
-    ensures steady { IsSteady (K.reliable sink.old) bytes.now (K.faults sink.old) (K.faults sink.new) }
+    ensures steady { IsSteady K.reliable K.faults bytes.now sink.old sink.new }
 {
     let mut at = 0;
     while at < bytes.len() {
@@ -28,9 +28,9 @@ pub fn write_all<K: Sink>(sink: &mut K, bytes: &[u8]) -> Result<(), Failed>
 pub fn answer<K: Sink>(sink: &mut K, output: &[u8], meant: Status) -> Status
     requires { meant ≢ Status.SinkFault }
     ensures answered { IsAnswered output.now (K.held sink.old) (K.held sink.new) meant result }
-    ensures cause { result ≡ Status.SinkFault → Rose (K.faults sink.old) (K.faults sink.new) }
+    ensures cause { result ≡ Status.SinkFault → Faulted K.faults sink.old sink.new }
     ensures later { K.faults sink.old ≤ K.faults sink.new }
-    ensures steady { IsSteady (K.reliable sink.old) output.now (K.faults sink.old) (K.faults sink.new) }
+    ensures steady { IsSteady K.reliable K.faults output.now sink.old sink.new }
 {
     match write_all(sink, output) {
         Ok(()) => meant,

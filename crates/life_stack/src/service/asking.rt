@@ -50,17 +50,15 @@ fn handed_as(
 
 /// Asks for a frame, and records what was handed.
 fn ask<L: Recorder>(body: &mut Limited<ScriptBody>, cx: &mut Cx<'_, L>) -> Got<()>
-    ensures asked { IfOk result (λ done. Asked 1 body.old (L.recorded cx.old.rec.now) body.new (L.recorded cx.new.rec.now)) }
-    ensures refused { IfErr result (λ error. Extends (L.recorded cx.old.rec.now) (L.recorded cx.new.rec.now)) }
+    ensures asked { IfOk result (λ done. Asked 1 body.old (L.recorded cx.old.rec.now)
+        body.new (L.recorded cx.new.rec.now)) }
+    ensures refused { IfErr result (λ error. Extends
+        (L.recorded cx.old.rec.now) (L.recorded cx.new.rec.now)) }
     ensures context { SameContext L.place cx.old cx.new }
 {
-    match body.poll_frame(cx) {
-        Ok(answer) => match handed_as(cx.alloc, answer) {
-            Ok(got) => cx.rec.note(Event::Handed { got }),
-            Err(no_memory) => Err(no_memory),
-        },
-        Err(no_memory) => Err(no_memory),
-    }
+    let answer = body.poll_frame(cx)?;
+    let got = handed_as(cx.alloc, answer)?;
+    cx.rec.note(Event::Handed { got })
 }
 
 /// Asks for so many frames, one after another, and records each.
@@ -69,15 +67,14 @@ pub(crate) fn ask_times<L: Recorder>(
     asks: u8,
     cx: &mut Cx<'_, L>,
 ) -> Got<()>
-    ensures asked { IfOk result (λ done. Asked asks body.old (L.recorded cx.old.rec.now) body.new (L.recorded cx.new.rec.now)) }
-    ensures refused { IfErr result (λ error. Extends (L.recorded cx.old.rec.now) (L.recorded cx.new.rec.now)) }
+    ensures asked { IfOk result (λ done. Asked asks body.old (L.recorded cx.old.rec.now)
+        body.new (L.recorded cx.new.rec.now)) }
+    ensures refused { IfErr result (λ error. Extends
+        (L.recorded cx.old.rec.now) (L.recorded cx.new.rec.now)) }
     ensures context { SameContext L.place cx.old cx.new }
 {
-    if asks == 0 {
-        return Ok(());
+    for _asked in 0..asks {
+        ask(body, cx)?;
     }
-    match ask(body, cx) {
-        Ok(()) => ask_times(body, asks - 1, cx),
-        Err(no_memory) => Err(no_memory),
-    }
+    Ok(())
 }

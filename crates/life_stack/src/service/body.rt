@@ -1,19 +1,23 @@
 //! The body of a request or of a response, by a script.
-ghost use Rattle.std.specs.Prelude.{◌≡◌, ⊤, slice_get, drop};
+ghost use Rattle.std.specs.Prelude.{◌≡◌, ⊤, slice_get, drop, IfOk};
+ghost use Rattle.life_core.specs.Calls.{NothingToAbandon};
 ghost use Rattle.std.specs.Option.{option_copied};
-ghost use Rattle.life_stack.specs.Service.Script.{ScriptFrames, ScriptAbandons, IsDefaultBody, tells_end, hint_of};
+ghost use Rattle.life_stack.specs.Service.Script.{ScriptFrames, IsDefaultScriptBody, tells_end, hint_of};
 
+use crate::service::fitting::FittingBody;
 use bytes::Bytes;
 use http_body::{Frame, SizeHint};
 use life_core::{
     Body, Cx, DefaultBody, Fault, Got, List, NoMemory, Poll, Recorder, Service, Spend, Text, Twin,
 };
 use life_script::{BodyItem, BodyItems, Reply, Script};
+use std::rc::Rc;
 
 /// The next item of a list, which is then used up.
 pub(crate) fn take_next<'a, T>(items: &'a List<T>, next: &mut u64) -> Option<&'a T>
     ensures item { option_copied result ≡ slice_get (drop next.old items.entry.now.items) 0 }
-    ensures rest { drop next.new items.entry.now.items ≡ drop 1 (drop next.old items.entry.now.items) }
+    ensures rest { drop next.new items.entry.now.items
+        ≡ drop 1 (drop next.old items.entry.now.items) }
 {
     let at = *next;
     if at < items.len() {
@@ -22,47 +26,46 @@ pub(crate) fn take_next<'a, T>(items: &'a List<T>, next: &mut u64) -> Option<&'a
     items.get(at)
 }
 
-/// Gives the items of a list, and then its end. The default holds no list and tells its end.
+/// Gives the items of a list that a script shares, and then its end. The default holds no list and tells its
+/// end.
 pub struct ScriptBody {
-    items: Option<BodyItems>,
+    items: Option<FittingBody>,
     next: u64,
     tells: bool,
 }
 
 impl ScriptBody {
+    ghost use Rattle.life_script.specs.Valid.{BodyFits};
     ghost use Rattle.life_stack.specs.Service.Script.{IsBodyOf, IsRequestBody};
 
     /// The body of a request: it gives these items and does not tell its end. It takes no memory.
-    pub(crate) fn of_request(items: BodyItems) -> ScriptBody
-        ensures { IsRequestBody items.items result }
+    pub(crate) fn of_request(items: Rc<BodyItems>) -> ScriptBody
+        requires { BodyFits items.value.items }
+        ensures { IsRequestBody items.value.items result }
     {
         ScriptBody {
-            items: Some(items),
+            items: Some(FittingBody::new(items)),
             next: 0,
             tells: false,
         }
     }
 
     /// The body of a scripted response.
-    pub(crate) fn of_reply(reply: Reply) -> ScriptBody
-        ensures { IsBodyOf reply result }
+    pub(crate) fn of_reply(reply: &Reply) -> Got<ScriptBody>
+        requires { BodyFits reply.now.body }
+        ensures { IfOk result (IsBodyOf reply.now) }
     {
-        let Reply {
-            status: _,
-            headers: _,
-            body,
-            tells,
-        } = reply;
-        ScriptBody {
-            items: Some(body),
+        let items = reply.body.clone()?;
+        Ok(ScriptBody {
+            items: Some(FittingBody::new(items)),
             next: 0,
-            tells,
-        }
+            tells: reply.tells,
+        })
     }
 }
 
 impl Default for ScriptBody {
-    ghost is_default = { IsDefaultBody };
+    ghost is_default = { IsDefaultScriptBody };
 
     fn default() -> ScriptBody {
         ScriptBody {
@@ -80,7 +83,7 @@ impl<L: Recorder> DefaultBody<L> for ScriptBody {
 impl<L: Recorder> Spend<L> for ScriptBody {
     ghost may = { λ _. ⊤ };
 
-    ghost abandons = { ScriptAbandons };
+    ghost abandons = { NothingToAbandon };
 
     fn abandon(self, _cx: &mut Cx<'_, L>) -> Got<()> {
         let ScriptBody {
@@ -107,7 +110,7 @@ impl<L: Recorder> Body<L> for ScriptBody {
         let Some(items) = &self.items else {
             return Ok(Poll::Ready(None));
         };
-        match take_next(items, &mut self.next) {
+        match take_next(items.as_list(), &mut self.next) {
             Some(BodyItem::Chunk(bytes)) => {
                 match Bytes::copy_from_slice(cx.alloc, bytes.as_slice()) {
                     Ok(bytes) => Ok(Poll::Ready(Some(Ok(Frame::data(bytes))))),
@@ -126,7 +129,7 @@ impl<L: Recorder> Body<L> for ScriptBody {
 
     fn is_end_stream(&self) -> bool {
         let used_up = match &self.items {
-            Some(items) => items.len() <= self.next,
+            Some(items) => items.as_list().len() <= self.next,
             None => true,
         };
         self.tells && used_up

@@ -1,22 +1,28 @@
 //! The future of the scripted service.
 ghost use Rattle.std.specs.Prelude.{⊤, IfOk};
-ghost use Rattle.life_stack.specs.Service.Script.{Answers, ScriptPolls, ScriptAbandons, IsReply};
+ghost use Rattle.life_core.specs.Calls.{NothingToAbandon};
+ghost use Rattle.life_script.specs.Valid.{ReplyFits, ThenFits};
+ghost use Rattle.life_stack.specs.Service.Script.{Answers, ScriptPolls, IsReply};
 
 use crate::service::asking::ask_times;
 use crate::service::body::{ScriptBody, take_next};
 use crate::service::ext::Ext;
+use crate::service::fitting::FittingPolls;
 use life_core::{
     Cx, Fault, Future, Got, Limited, PanicText, Poll, Recorder, Response, ResponseHead, Spend,
     Text, Twin,
 };
-use life_script::{PollItems, Reply, Then};
+use life_script::{Reply, Then};
 use std::alloc::Global;
 
 /// Answers the items of a list, one a poll, each after it asked for frames of the request's body. It holds
 /// that body until it is abandoned.
 pub struct ScriptFuture {
-    pub(crate) polls: PollItems,
+    /// The items of its script, which shares them.
+    pub(crate) polls: FittingPolls,
+    /// How many of them were answered.
     pub(crate) next: u64,
+    /// The body of its request.
     pub(crate) body: Limited<ScriptBody>,
     /// The panic of the call, until the first poll tells it.
     pub(crate) panic: Option<PanicText>,
@@ -25,7 +31,7 @@ pub struct ScriptFuture {
 impl<L: Recorder> Spend<L> for ScriptFuture {
     ghost may = { λ _. ⊤ };
 
-    ghost abandons = { ScriptAbandons };
+    ghost abandons = { NothingToAbandon };
 
     fn abandon(self, cx: &mut Cx<'_, L>) -> Got<()> {
         let ScriptFuture {
@@ -52,7 +58,7 @@ impl<L: Recorder> Future<L> for ScriptFuture {
         if let Some(text) = self.panic.take() {
             return Ok(Poll::Ready(Err(Fault::Panicked(text))));
         }
-        let Some(item) = take_next(&self.polls, &mut self.next) else {
+        let Some(item) = take_next(self.polls.as_list(), &mut self.next) else {
             return Ok(Poll::Pending);
         };
         ask_times(&mut self.body, item.asks, cx)?;
@@ -62,6 +68,7 @@ impl<L: Recorder> Future<L> for ScriptFuture {
 
 /// The answer to what an item says.
 fn answer(alloc: Global, then: &Then) -> Got<Poll<Result<Response<ScriptBody, Ext>, Fault<Text>>>>
+    requires { ThenFits then.now }
     ensures { IfOk result (Answers then.now) }
 {
     match then {
@@ -74,14 +81,12 @@ fn answer(alloc: Global, then: &Then) -> Got<Poll<Result<Response<ScriptBody, Ex
 
 /// The response of a script.
 fn respond(alloc: Global, reply: &Reply) -> Got<Response<ScriptBody, Ext>>
+    requires { ReplyFits reply.now }
     ensures { IfOk result (IsReply reply.now) }
 {
     let headers = reply.headers.to_map(alloc)?;
-    let reply = reply.twin(alloc)?;
+    let body = ScriptBody::of_reply(reply)?;
     let mut head = ResponseHead::bare(alloc, reply.status);
     head.parts.headers = headers;
-    Ok(Response {
-        head,
-        body: ScriptBody::of_reply(reply),
-    })
+    Ok(Response { head, body })
 }

@@ -11,11 +11,10 @@ pub struct DeadlineBody<B> {
 }
 
 impl<B> DeadlineBody<B> {
-    ghost use Rattle.life_time.specs.DeadlineBody.{IsUnderDeadline};
-
     /// The body under a deadline `timeout` nanoseconds after `now`.
     pub fn new(timeout: u64, body: B, now: u64) -> DeadlineBody<B>
-        ensures { IsUnderDeadline timeout body now result }
+        ensures { result
+            ≡ record { body = body; timer = record { start = now; length = timeout } } }
     {
         DeadlineBody {
             body,
@@ -28,11 +27,9 @@ impl<B> DeadlineBody<B> {
 }
 
 impl<B: Spend<L>, L: Recorder> Spend<L> for DeadlineBody<B> {
-    ghost use Rattle.life_time.specs.DeadlineBody.{DeadlineBodyMay, DeadlineBodyAbandons};
+    ghost may = { λ b. B.may b.body };
 
-    ghost may = { DeadlineBodyMay B.may };
-
-    ghost abandons = { DeadlineBodyAbandons B.abandons };
+    ghost abandons = { λ b. B.abandons b.body };
 
     fn abandon(self, cx: &mut Cx<'_, L>) -> Got<()> {
         let DeadlineBody { body, timer: _ } = self;
@@ -49,18 +46,29 @@ where
 
     type Error = BodyError<B::Error>;
 
-    ghost use Rattle.life_time.specs.DeadlineBody.{DeadlineFrames, deadline_ends, deadline_hints};
+    ghost use Rattle.life_core.specs.Moment.{moment_of, SameContext};
+    ghost use Rattle.life_time.specs.DeadlineBody.{DeadlineFrames, IsElapsed, StaysElapsed};
 
     ghost frames = { DeadlineFrames B.frames };
 
-    ghost ends = { deadline_ends B.ends };
+    ghost ends = { λ b. B.ends b.body };
 
-    ghost hints = { deadline_hints B.hints };
+    ghost hints = { λ b. B.hints b.body };
 
+    /// The next frame, unless the time is over. Once it is, each poll that is not earlier says so.
+    #[tactic(auto, using(crate::proofs::Elapsing::told_due))]
     fn poll_frame(
         &mut self,
         cx: &mut Cx<'_, L>,
-    ) -> Got<Poll<Option<Result<Frame<B::Data>, BodyError<B::Error>>>>> {
+    ) -> Got<Poll<Option<Result<Frame<B::Data>, BodyError<B::Error>>>>>
+        requires { B.may self.old.body }
+        ensures frames { DeadlineFrames B.frames self.old (L.recorded cx.old.rec.now)
+            (moment_of cx.old) result self.new (L.recorded cx.new.rec.now) }
+        ensures may { B.may self.new.body }
+        ensures context { SameContext L.place cx.old cx.new }
+        ensures stays { IsElapsed result
+            → StaysElapsed (DeadlineFrames B.frames) cx.old.now self.new }
+    {
         if self.timer.is_due(cx.now) {
             return Ok(Poll::Ready(Some(Err(BodyError::Elapsed))));
         }

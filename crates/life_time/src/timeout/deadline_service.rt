@@ -2,7 +2,8 @@
 ghost use Rattle.std.specs.Prelude.{◌≡◌};
 
 use crate::timeout::deadline_body::DeadlineBody;
-use life_core::{Body, Cx, Future, Got, Poll, Recorder, Response, Service, Sound, Spend};
+use life_core::{Body, Cx, Future, Got, Poll, Recorder, Response, Service, Sound, Spend, Twin};
+use std::alloc::Global;
 
 /// Puts each response's body under a deadline, from the poll that gave the response.
 #[derive(Drop)]
@@ -13,12 +14,11 @@ pub struct ResponseBodyDeadline<S> {
 
 impl<S> ResponseBodyDeadline<S> {
     ghost use Rattle.std.specs.Borrow.{sem};
-    ghost use Rattle.life_time.specs.DeadlineService.{IsDeadlineService, deadline_inner};
-    ghost use Rattle.life_time.specs.Lending.{LendsDeadlineInner};
+    ghost use Rattle.life_time.specs.DeadlineService.{LendsDeadlineInner};
 
     /// The service with `timeout` nanoseconds for each response's body.
     pub fn new(service: S, timeout: u64) -> ResponseBodyDeadline<S>
-        ensures { IsDeadlineService timeout service result }
+        ensures { result ≡ record { inner = service; timeout = timeout } }
     {
         ResponseBodyDeadline {
             inner: service,
@@ -28,7 +28,7 @@ impl<S> ResponseBodyDeadline<S> {
 
     /// The inner service.
     pub fn get_ref(&self) -> &S
-        ensures { result.now ≡ deadline_inner self.now }
+        ensures { result.now ≡ self.now.inner }
     {
         &self.inner
     }
@@ -36,17 +36,24 @@ impl<S> ResponseBodyDeadline<S> {
     /// The inner service, to be changed.
     pub fn get_mut(&mut self) -> &mut S
         ensures* writes_back { sem 𝓛 (LendsDeadlineInner S.row self.entry result) }
-        ensures value { result.now ≡ deadline_inner self.old }
+        ensures value { result.now ≡ self.old.inner }
     {
         &mut self.inner
     }
 
     /// The inner service.
     pub fn into_inner(self) -> S
-        ensures { result ≡ deadline_inner self }
+        ensures { result ≡ self.inner }
     {
         let ResponseBodyDeadline { inner, timeout: _ } = self;
         inner
+    }
+}
+
+impl<S: Twin> Twin for ResponseBodyDeadline<S> {
+    fn twin(&self, alloc: Global) -> Got<ResponseBodyDeadline<S>> {
+        let inner = self.inner.twin(alloc)?;
+        Ok(ResponseBodyDeadline::new(inner, self.timeout))
     }
 }
 
@@ -63,11 +70,12 @@ where
 
     type Future = ResponseBodyDeadlineFuture<S::Future>;
 
-    ghost use Rattle.life_time.specs.DeadlineService.{DeadlineMay, DeadlineReadies, DeadlineCalls};
+    ghost use Rattle.life_core.specs.Calls.{Forwards};
+    ghost use Rattle.life_time.specs.DeadlineService.{DeadlineCalls};
 
-    ghost may = { DeadlineMay S.may };
+    ghost may = { λ s. S.may s.inner };
 
-    ghost readies = { DeadlineReadies S.readies };
+    ghost readies = { Forwards (λ s. s.inner) (λ s inner. record s { inner = inner }) S.readies };
 
     ghost calls = { DeadlineCalls S.calls };
 
@@ -90,11 +98,9 @@ pub struct ResponseBodyDeadlineFuture<F> {
 }
 
 impl<F: Spend<L>, L: Recorder> Spend<L> for ResponseBodyDeadlineFuture<F> {
-    ghost use Rattle.life_time.specs.DeadlineService.{DeadlineFutureMay, DeadlineAbandons};
+    ghost may = { λ f. F.may f.inner };
 
-    ghost may = { DeadlineFutureMay F.may };
-
-    ghost abandons = { DeadlineAbandons F.abandons };
+    ghost abandons = { λ f. F.abandons f.inner };
 
     fn abandon(self, cx: &mut Cx<'_, L>) -> Got<()> {
         let ResponseBodyDeadlineFuture { inner, timeout: _ } = self;
@@ -110,9 +116,9 @@ where
 {
     type Output = Result<Response<DeadlineBody<B>, X>, E>;
 
-    ghost use Rattle.life_time.specs.DeadlineService.{DeadlineFutureMay, DeadlinePolls};
+    ghost use Rattle.life_time.specs.DeadlineService.{DeadlinePolls};
 
-    ghost live = { DeadlineFutureMay F.live };
+    ghost live = { λ f. F.live f.inner };
 
     ghost polls = { DeadlinePolls F.polls };
 

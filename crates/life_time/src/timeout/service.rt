@@ -4,8 +4,9 @@ ghost use Rattle.std.specs.Prelude.{◌≡◌};
 use http::StatusCode;
 use life_core::{
     Cx, DefaultBody, Future, Got, Poll, Recorder, Response, ResponseHead, Service, Sound, Spend,
-    Timer,
+    Timer, Twin,
 };
+use std::alloc::Global;
 
 /// Answers a status of its own where the inner service takes too long.
 #[derive(Drop)]
@@ -17,19 +18,18 @@ pub struct Timeout<S> {
 
 impl<S> Timeout<S> {
     ghost use Rattle.std.specs.Borrow.{sem};
-    ghost use Rattle.life_time.specs.Timeout.{IsTimeout, timeout_inner};
-    ghost use Rattle.life_time.specs.Lending.{LendsTimeoutInner};
+    ghost use Rattle.life_time.specs.Timeout.{LendsTimeoutInner};
 
     /// The service with `timeout` nanoseconds for each response, and status 408 where it takes longer.
     pub fn new(inner: S, timeout: u64) -> Timeout<S>
-        ensures { IsTimeout 408 timeout inner result }
+        ensures { result ≡ record { inner = inner; timeout = timeout; status_code = 408 } }
     {
         Timeout::with_status_code(inner, StatusCode::REQUEST_TIMEOUT, timeout)
     }
 
     /// The service with `timeout` nanoseconds for each response, and this status where it takes longer.
     pub fn with_status_code(inner: S, status_code: StatusCode, timeout: u64) -> Timeout<S>
-        ensures { IsTimeout status_code timeout inner result }
+        ensures { result ≡ record { inner = inner; timeout = timeout; status_code = status_code } }
     {
         Timeout {
             inner,
@@ -40,7 +40,7 @@ impl<S> Timeout<S> {
 
     /// The inner service.
     pub fn get_ref(&self) -> &S
-        ensures { result.now ≡ timeout_inner self.now }
+        ensures { result.now ≡ self.now.inner }
     {
         &self.inner
     }
@@ -48,14 +48,14 @@ impl<S> Timeout<S> {
     /// The inner service, to be changed.
     pub fn get_mut(&mut self) -> &mut S
         ensures* writes_back { sem 𝓛 (LendsTimeoutInner S.row self.entry result) }
-        ensures value { result.now ≡ timeout_inner self.old }
+        ensures value { result.now ≡ self.old.inner }
     {
         &mut self.inner
     }
 
     /// The inner service.
     pub fn into_inner(self) -> S
-        ensures { result ≡ timeout_inner self }
+        ensures { result ≡ self.inner }
     {
         let Timeout {
             inner,
@@ -63,6 +63,13 @@ impl<S> Timeout<S> {
             status_code: _,
         } = self;
         inner
+    }
+}
+
+impl<S: Twin> Twin for Timeout<S> {
+    fn twin(&self, alloc: Global) -> Got<Timeout<S>> {
+        let inner = self.inner.twin(alloc)?;
+        Ok(Timeout::with_status_code(inner, self.status_code, self.timeout))
     }
 }
 
@@ -80,11 +87,12 @@ where
 
     type Future = ResponseFuture<S::Future>;
 
-    ghost use Rattle.life_time.specs.Timeout.{TimeoutMay, TimeoutReadies, TimeoutCalls};
+    ghost use Rattle.life_core.specs.Calls.{Forwards};
+    ghost use Rattle.life_time.specs.Timeout.{TimeoutCalls};
 
-    ghost may = { TimeoutMay S.may };
+    ghost may = { λ s. S.may s.inner };
 
-    ghost readies = { TimeoutReadies S.readies };
+    ghost readies = { Forwards (λ s. s.inner) (λ s inner. record s { inner = inner }) S.readies };
 
     ghost calls = { TimeoutCalls S.calls };
 
@@ -114,11 +122,12 @@ pub struct ResponseFuture<F> {
 }
 
 impl<F: Spend<L>, L: Recorder> Spend<L> for ResponseFuture<F> {
-    ghost use Rattle.life_time.specs.Timeout.{TimeoutFutureMay, TimeoutAbandons};
+    ghost use Rattle.std.specs.Prelude.{IfSome};
+    ghost use Rattle.life_core.specs.Calls.{AbandonsIfAny};
 
-    ghost may = { TimeoutFutureMay F.may };
+    ghost may = { λ f. IfSome f.inner F.may };
 
-    ghost abandons = { TimeoutAbandons F.abandons };
+    ghost abandons = { λ f. AbandonsIfAny F.abandons f.inner };
 
     fn abandon(self, cx: &mut Cx<'_, L>) -> Got<()> {
         let ResponseFuture {
@@ -142,9 +151,10 @@ where
 {
     type Output = Result<Response<B, X>, E>;
 
-    ghost use Rattle.life_time.specs.Timeout.{TimeoutFutureLive, TimeoutPolls};
+    ghost use Rattle.std.specs.Prelude.{IsSomeAnd};
+    ghost use Rattle.life_time.specs.Timeout.{TimeoutPolls};
 
-    ghost live = { TimeoutFutureLive F.live };
+    ghost live = { λ f. IsSomeAnd f.inner F.live };
 
     ghost polls = { TimeoutPolls F.polls F.abandons B.is_default X.is_default };
 

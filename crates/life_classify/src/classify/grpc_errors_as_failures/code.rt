@@ -1,7 +1,7 @@
 //! The status codes of gRPC.
 ghost use Rattle.std.specs.Prelude.{◌≡◌, ◌^◌, pos, Some, unwrap_or, codes};
 ghost use Rattle.std.specs.Int.NonZero.{non_zero_i32_get};
-ghost use Rattle.life_classify.specs.Code.{number_of, name_of, code_numbered, code_of};
+ghost use Rattle.life_classify.specs.Code.{code_number, code_name, code_numbered, code_of};
 
 use crate::classify::grpc_errors_as_failures::bitmask::GrpcCodeBitmask;
 use std::num::NonZeroI32;
@@ -48,7 +48,7 @@ pub enum GrpcCode {
 impl GrpcCode {
     /// The code's number, from 0 to 16.
     pub fn number(self) -> i32
-        ensures { result ≡ pos (number_of self) }
+        ensures { result ≡ pos (code_number self) }
     {
         match self {
             GrpcCode::Ok => 0,
@@ -73,7 +73,7 @@ impl GrpcCode {
 
     /// The variant's name.
     pub(crate) fn name(self) -> &'static str
-        ensures { result.now ≡ name_of self }
+        ensures { result.now ≡ code_name self }
     {
         match self {
             GrpcCode::Ok => "Ok",
@@ -124,7 +124,7 @@ impl GrpcCode {
 
     /// The set of this code alone.
     pub(crate) fn into_bitmask(self) -> GrpcCodeBitmask
-        ensures { result.0 ≡ 2 ^ number_of self }
+        ensures { result.0 ≡ 2 ^ code_number self }
     {
         match self {
             GrpcCode::Ok => GrpcCodeBitmask::OK,

@@ -1,6 +1,6 @@
 //! Reading `grpc-status` and `grpc-message`.
 ghost use Rattle.std.specs.Prelude.{◌≡◌, Some, IfOk, true};
-ghost use Rattle.life_classify.specs.Code.{code_numbered, has};
+ghost use Rattle.life_classify.specs.Code.{code_numbered, codes_in, has_code};
 ghost use Rattle.life_classify.specs.Grpc.{decoded, message_in, number_parsed, grpc_parsed};
 ghost use Rattle.life_classify.specs.Grpc as spec;
 ghost use Rattle.life_classify.specs.Number.{number_in};
@@ -11,7 +11,7 @@ use crate::classify::grpc_errors_as_failures::code::GrpcCode;
 use crate::classify::grpc_errors_as_failures::status::{GrpcStatus, ParsedGrpcStatus};
 use bitflags::Flags;
 use http::{HeaderMap, HeaderValue};
-use life_core::{Got, NoMemory, Text};
+use life_core::{Got, Text};
 use percent_encoding::{decode_utf8_lossy, percent_decode};
 use std::alloc::Global;
 
@@ -32,13 +32,9 @@ fn number_of(value: &HeaderValue) -> Option<i32>
 fn decode(alloc: Global, message: &HeaderValue) -> Got<Text>
     ensures { IfOk result (λ text. text ≡ decoded message.now.bytes) }
 {
-    let Ok(bytes) = percent_decode(message.as_bytes()).into_cow(alloc) else {
-        return Err(NoMemory);
-    };
-    match decode_utf8_lossy(alloc, bytes) {
-        Ok(text) => Text::copy(alloc, text.as_str()),
-        Err(_) => Err(NoMemory),
-    }
+    let bytes = percent_decode(message.as_bytes()).into_cow(alloc)?;
+    let text = decode_utf8_lossy(alloc, bytes)?;
+    Text::copy(alloc, text.as_str())
 }
 
 /// The first `grpc-message`, decoded.
@@ -52,8 +48,9 @@ fn message_of(alloc: Global, headers: &HeaderMap) -> Got<Option<Text>>
 }
 
 /// Whether a number is that of a code in the set.
+#[tactic(auto, using(crate::proofs::CodeSets::has_code_in))]
 fn is_success(success_codes: GrpcCodeBitmask, number: i32) -> bool
-    ensures { result ≡ spec.is_success success_codes.0 (code_numbered number) }
+    ensures { result ≡ spec.is_success (codes_in success_codes.0) (code_numbered number) }
 {
     match GrpcCode::from_i32(number) {
         Some(code) => success_codes.contains(code.into_bitmask()),
@@ -68,7 +65,8 @@ fn classify_number(
     headers: &HeaderMap,
     success_codes: GrpcCodeBitmask,
 ) -> Got<ParsedGrpcStatus>
-    ensures { IfOk result (λ parsed. parsed ≡ number_parsed success_codes.0 (Some number) (message_in headers.now)) }
+    ensures { IfOk result (λ parsed.
+        parsed ≡ number_parsed (codes_in success_codes.0) (Some number) (message_in headers.now)) }
 {
     if is_success(success_codes, number) {
         return Ok(ParsedGrpcStatus::Success);
@@ -83,7 +81,7 @@ pub(crate) fn classify_grpc_metadata(
     headers: &HeaderMap,
     success_codes: GrpcCodeBitmask,
 ) -> Got<ParsedGrpcStatus>
-    ensures { IfOk result (λ parsed. parsed ≡ grpc_parsed success_codes.0 headers.now) }
+    ensures { IfOk result (λ parsed. parsed ≡ grpc_parsed (codes_in success_codes.0) headers.now) }
 {
     match headers.get("grpc-status") {
         Some(status) => match number_of(status) {
@@ -102,7 +100,7 @@ pub fn grpc_metadata(
     success: &GrpcErrorsAsFailures,
 ) -> Got<ParsedGrpcStatus>
     ensures parsed { IfOk result (λ parsed. parsed ≡ grpc_parsed success.now headers.now) }
-    ensures ok { has success.now GrpcCode.Ok ≡ true }
+    ensures ok { has_code success.now GrpcCode.Ok ≡ true }
 {
     classify_grpc_metadata(alloc, headers, success.success_codes())
 }

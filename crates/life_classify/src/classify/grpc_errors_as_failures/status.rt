@@ -15,11 +15,11 @@ pub struct GrpcStatus {
 }
 
 impl GrpcStatus {
-    ghost use Rattle.life_classify.specs.Grpc.{status_of, code_told, number_told, message_told};
+    ghost use Rattle.life_classify.specs.Grpc.{status_numbered, code_told, number_told, message_told};
 
     /// The status with this number and this message.
     pub(crate) fn new(code_raw: i32, message: Option<Text>) -> GrpcStatus
-        ensures { result ≡ status_of code_raw message }
+        ensures { result ≡ status_numbered code_raw message }
     {
         GrpcStatus {
             code: GrpcCode::from_i32(code_raw),

@@ -1,5 +1,5 @@
 use Rattle.std.proofs.Common.{◌≤◌, ◌-◌, ◌∙◌, length, take, drop, arith}
-use Rattle.life_stack.proofs.ProgramLaws.Pieces.{one_more, rest_length, room_left}
+use Rattle.life_stack.proofs.ProgramLaws.Pieces.{one_more, rest_length, room_past_piece}
 use Rattle.life_stack.proofs.program.writing.write_all.Goals as goal
 
 pub loop-at-preserved : goal.loop-at-preserved
@@ -16,5 +16,5 @@ loop-at-preserved g c =
           let size = rest_length c.args.bytes.now c.loop-at.at in
           let enough : length (take (length c.args.bytes.now - c.loop-at.at) (drop c.loop-at.at c.args.bytes.now)) ≤ room - c.loop-at.at = omega (arith, size, fits, i.within) in
           let after = e.reliable (room - c.loop-at.at) before.1 enough in
-          (after.0 ∙ before.0, room_left (g.K.Sink.reliable c.write.new.self) room c.loop-at.at c.in_ok-at.field-0 after.1);
+          (after.0 ∙ before.0, room_past_piece (g.K.Sink.reliable c.write.new.self) room c.loop-at.at c.in_ok-at.field-0 after.1);
     }

@@ -1,8 +1,8 @@
-use Rattle.std.proofs.Common.{◌≡◌, sym, subst, Result, Ok, Err, IfOk, ◌≤◌, ℕ, Some, ap, ◌∙◌, arith}
+use Rattle.std.proofs.Common.{◌≡◌, refl, sym, subst, Result, Ok, Err, IfOk, ◌≤◌, ℕ, Some, ap, ◌∙◌, arith}
 use Rattle.life_script.specs.declared.error.DriveError.{DriveError}
 use Rattle.life_session.specs.Report.{ReportView}
-use Rattle.life_session.proofs.ReportLaws.{story_of, told_story}
-use Rattle.life_stack.specs.Stack.Drive.{report_of}
+use Rattle.life_session.proofs.ReportLaws.{stories_count, story_of, told_story}
+use Rattle.life_stack.specs.Stack.Drive.{IsOfScenario, report_of}
 use Rattle.life_stack.specs.Table.Request.{numbered}
 use Rattle.life_stack.specs.Table.Story.{story_table, body_bytes, drops, drop_records}
 use Rattle.std.specs.Prelude.{slice_get}
@@ -33,6 +33,13 @@ report_bounded limits s i script t here is =
 of_report : (P : ReportView → Type 0) (r : Result ReportView DriveError) (whole : ReportView) → IfOk r (λ told. told ≡ whole) → P whole → IfOk r P
 of_report P (Ok told) whole is p = subst P (sym is) p
 of_report P (Err e) whole is p = tt
+
+-- it tells of each request
+report_whole : (limits : Limits) (s : ScenarioView) → IsOfScenario s (report_of limits s)
+report_whole limits s = record { each_told = stories_count (λ i script. story_table limits (numbered i script)) s.requests 0 s.steps s.end; steps_are = refl; end_is = refl }
+
+pub returns-clause-whole : goal.returns-clause-whole
+returns-clause-whole c = of_report _ c.drive.result (report_of c.args.limits.now c.args.scenario.now) c.drive.ensures.told (report_whole c.args.limits.now c.args.scenario.now)
 
 pub returns-clause-each : goal.returns-clause-each
 returns-clause-each c = let s = c.args.scenario.now in of_report _ c.drive.result (report_of c.args.limits.now s) c.drive.ensures.told (story_of (λ i script. story_table c.args.limits.now (numbered i script)) s)

@@ -7,8 +7,8 @@ returns-in-Err-clause-polls g c =
     inr (record {
       response = arm.field-0-0;
       between = _;
-      left = c.abandon.result;
+      abandoned = c.abandon.result;
       inner = rw (arm.is, arm.field-0-is) at c.in_ok-head.ensures.polls;
       asks = rw arm.head-is (search rules);
-      leaving = subst (λ m. g.B.Spend.abandons arm.field-0-0.body (g.L.Recorder.recorded c.poll.new.cx.rec.now) m c.abandon.result (g.L.Recorder.recorded c.abandon.new.cx.rec.now)) c.poll.ensures.context.moment c.abandon.ensures.abandons;
+      abandoning = subst (λ m. g.B.Spend.abandons arm.field-0-0.body (g.L.Recorder.recorded c.poll.new.cx.rec.now) m c.abandon.result (g.L.Recorder.recorded c.abandon.new.cx.rec.now)) c.poll.ensures.context.moment c.abandon.ensures.abandons;
     })

@@ -9,7 +9,7 @@ returns-in-Err-make_at_call-clause-calls g c =
       future_hook = c.in-Ok.ensures.makes;
       body_hook = c.in-Err-make_at_call.ensures.makes;
       same = refl;
-      left = c.abandon_request-in-Err-make_at_call.ensures.left;
+      abandoned = c.abandon_request-in-Err-make_at_call.ensures.abandoned;
     }))
 
 pub returns-in-Err-twin-clause-calls : goal.returns-in-Err-twin-clause-calls
@@ -20,5 +20,5 @@ returns-in-Err-twin-clause-calls g c =
       future_hook = c.in-Ok.ensures.makes;
       body_hook = c.in-Ok-make_at_call.ensures.makes;
       same = refl;
-      left = c.abandon_request-in-Err-twin.ensures.left;
+      abandoned = c.abandon_request-in-Err-twin.ensures.abandoned;
     }))

@@ -1,5 +1,6 @@
+use Rattle.std.proofs.Common.{rules}
 use Rattle.life_gate.proofs.Refused.{handed_on}
 use Rattle.life_gate.proofs.validate_request.service.ValidateRequestHeader+S+AcceptHeader+R.accept.Goals as goal
 
-pub returns-in-Err-clause-invalid : goal.returns-in-Err-clause-invalid
-returns-in-Err-clause-invalid g c = handed_on _ _ _ c.in-Err.ensures.invalid
+pub returns-in_err-validate-clause-invalid : goal.returns-in_err-validate-clause-invalid
+returns-in_err-validate-clause-invalid g c = handed_on _ _ _ _ (search rules) c.in_err-validate.ensures.invalid

@@ -1,16 +1,16 @@
 use Rattle.std.proofs.Common.{Ok, Err, rules}
 use Rattle.life_gate.proofs.validate_request.service.ValidateRequestHeaderServiceRequest.call.Goals as goal
 
-pub returns-in-Ok-clause-calls : goal.returns-in-Ok-clause-calls
-returns-in-Ok-clause-calls g c = record {
+pub returns-in_ok-call-in-Ok-Ok-clause-calls : goal.returns-in_ok-call-in-Ok-Ok-clause-calls
+returns-in_ok-call-in-Ok-Ok-clause-calls g c = record {
   verdict = Ok (Ok tt);
   seen = c.validate.new.request;
   validated = search rules;
   follows = search rules;
 }
 
-pub returns-in-Err-call-clause-calls : goal.returns-in-Err-call-clause-calls
-returns-in-Err-call-clause-calls g c = record {
+pub returns-in_err-call-in-Ok-Ok-clause-calls : goal.returns-in_err-call-in-Ok-Ok-clause-calls
+returns-in_err-call-in-Ok-Ok-clause-calls g c = record {
   verdict = Ok (Ok tt);
   seen = c.validate.new.request;
   validated = search rules;

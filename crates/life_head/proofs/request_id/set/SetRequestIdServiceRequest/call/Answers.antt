@@ -10,7 +10,7 @@ returns-in-Err-clause-calls g c = inr (
   refl,
   record {
     asked = search rules;
-    left = rw c.tag.ensures.body at c.abandon_request.ensures.left;
+    abandoned = rw c.tag.ensures.body at c.abandon_request.ensures.abandoned;
     same = refl;
   },
 )

@@ -1,0 +1,4 @@
+use Rattle.life_script.proofs.texts.TextBuilder.+last_digits.Given as goal
+
+abbrev pub decreases-last_digits : goal.decreases-last_digits
+decreases-last_digits l = l.width

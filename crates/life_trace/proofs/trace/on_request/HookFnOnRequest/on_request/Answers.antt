@@ -1,0 +1,5 @@
+use Rattle.life_trace.proofs.Closures.{closure_sees_request}
+use Rattle.life_trace.proofs.trace.on_request.HookFnOnRequest.on_request.Goals as goal
+
+pub returns-clause-sees : goal.returns-clause-sees
+returns-clause-sees g c = closure_sees_request g.L.Recorder.recorded g.F.FnMut c.args.self.now.closure _ _ _ _ _ _ _ c.closure.ensures
