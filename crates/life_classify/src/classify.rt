@@ -7,7 +7,6 @@ mod never_classify_eos;
 mod server_errors_as_failures;
 mod shared_classifier;
 mod status_in_range_is_error;
-mod text;
 mod traits;
 
 pub use drive_classifier::{DriveClassifier, DriveClassifyEos, DriveFailureClass};

@@ -1,6 +1,7 @@
 pub mod Calls
 pub mod Faults
 pub mod Fields
+pub mod FramePolls
 pub mod Full
 pub mod Header
 pub mod History

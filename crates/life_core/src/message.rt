@@ -192,13 +192,20 @@ impl Twin for Uri {
     }
 }
 
+impl Twin for Method {
+    fn twin(&self, _alloc: Global) -> Got<Method> {
+        match self.clone() {
+            Ok(twin) => Ok(twin),
+            Err(_) => Err(NoMemory),
+        }
+    }
+}
+
 /// Parts that equal these.
 fn twin_parts(alloc: Global, parts: &RequestParts) -> Got<RequestParts>
     ensures { IfOk result (λ twin. twin ≡ parts.now) }
 {
-    let Ok(method) = parts.method.clone() else {
-        return Err(NoMemory);
-    };
+    let method = parts.method.twin(alloc)?;
     let uri = parts.uri.twin(alloc)?;
     let headers = parts.headers.twin(alloc)?;
     let mut twin = RequestParts::new(alloc);

@@ -1,9 +1,11 @@
 //! Texts and bytes that contracts see as lists of bytes.
-ghost use Rattle.std.specs.Prelude.{◌≡◌, IfOk};
+ghost use Rattle.std.specs.Prelude.{◌≡◌, IfOk, IfSome};
 
 use crate::Got;
 use crate::twin::Twin;
 use std::alloc::Global;
+use std::fmt;
+use std::fmt::Display;
 use std::marker::Model;
 
 /// Bytes.
@@ -74,6 +76,14 @@ impl Text {
         Ok(Text { text })
     }
 
+    /// The text that a value shows.
+    pub fn shown<T: Display>(alloc: Global, value: &T) -> Got<Text>
+        ensures { IfOk result (λ text. IfSome (T.output value.now) (λ shown. text ≡ shown)) }
+    {
+        let text = value.to_string(alloc)?;
+        Ok(Text { text })
+    }
+
     /// The text.
     pub fn as_str(&self) -> &str
         ensures { result.now ≡ self.now }
@@ -85,6 +95,16 @@ impl Text {
 impl Twin for Text {
     fn twin(&self, alloc: Global) -> Got<Text> {
         Text::copy(alloc, self.as_str())
+    }
+}
+
+impl Display for Text {
+    ghost use Rattle.std.specs.Prelude.{Some};
+
+    ghost output = { Some };
+
+    fn fmt<W: fmt::Write>(&self, f: &mut fmt::Formatter<W>) -> fmt::Result {
+        f.write_str(self.as_str())
     }
 }
 

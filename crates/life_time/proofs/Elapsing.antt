@@ -3,13 +3,14 @@ use Rattle.std.proofs.Common.{◌≡◌, ℕ, ◌≤◌, Bool, true, false, List
 use Rattle.std.specs.List.{All}
 use Rattle.std.proofs.lemmas.List.Elements.{All-nil, All-cons}
 use Rattle.life_core.specs.Calls.{Frames, Answer}
+use Rattle.life_core.specs.FramePolls.{FramePoll, PolledFrom}
 use Rattle.life_core.specs.Moment.{Moment}
 use Rattle.life_core.specs.Recorded.{Recorded}
 use Rattle.life_core.specs.Timer.{due}
 use Rattle.life_core.specs.declared.body.BodyError.{BodyError}
 use Rattle.life_core.specs.declared.clock.Timer.{Timer}
 use Rattle.life_core.proofs.Timers.{due_later}
-use Rattle.life_time.specs.DeadlineBody.{DeadlineFrames, FramePoll, IsElapsed, PolledFrom, StaysElapsed}
+use Rattle.life_time.specs.DeadlineBody.{DeadlineFrames, IsElapsed, StaysElapsed}
 use Rattle.life_time.specs.declared.timeout.deadline_body.DeadlineBody.{DeadlineBody}
 
 module _ {B D E : Type 0} (frames : Frames B D E) where

@@ -1,8 +1,9 @@
 -- What `DeadlineBody` does: its timer first, then the inner body.
-use Rattle.std.specs.Prelude.{◌≡◌, ℕ, ◌≤◌, true, false, List, [], ◌∷◌, Some, Ok, Err, ⊤}
+use Rattle.std.specs.Prelude.{◌≡◌, ℕ, ◌≤◌, true, false, List, Some, Ok, Err}
 use Rattle.std.specs.List.{All}
 use Rattle.life_core.specs.Timer.{due}
 use Rattle.life_core.specs.Calls.{Frames, Answer, WrapsFaults}
+use Rattle.life_core.specs.FramePolls.{FramePoll, PolledFrom}
 use Rattle.life_core.specs.Moment.{Moment}
 use Rattle.life_core.specs.Recorded.{Recorded}
 use Rattle.life_core.specs.declared.poll.Poll.TheVariants.{Ready}
@@ -32,19 +33,6 @@ pub record DeadlineFrames {B D E : Type 0} (frames : Frames B D E) (old : Deadli
 -- the answer of a wait that is over
 abbrev pub IsElapsed : {D E : Type 0} → Answer D (BodyError E) → Type 0
 IsElapsed answer = answer ≡ Ok (Ready (Some (Err Elapsed)))
-
--- one poll of a body: the recorder before, when, the answer, body and recorder after
-pub record FramePoll (B D E : Type 0) : Type 0 where
-  pub was : Recorded
-  pub moment : Moment
-  pub answer : Answer D E
-  pub after : B
-  pub now : Recorded
-
--- the body was polled so, one poll after another
-abbrev pub PolledFrom : {B D E : Type 0} → Frames B D E → B → List (FramePoll B D E) → Type 0
-PolledFrom frames b [] = ⊤
-PolledFrom frames b (p ∷ polls) = frames b p.was p.moment p.answer p.after p.now × PolledFrom frames p.after polls
 
 -- however it is polled from here on, each poll that is not earlier than this time finds the wait over
 abbrev pub StaysElapsed : {B D E : Type 0} → Frames B D (BodyError E) → ℕ → B → Type 0

@@ -8,11 +8,14 @@ pub mod DefaultOnRequest
 pub mod DefaultOnResponse
 pub mod Future
 pub mod Headers
+pub mod History
+pub mod HookCalls
 pub mod Hooks
 pub mod MakeSpan
 pub mod NoteChunk
 pub mod Parts
 pub mod Records
+pub mod RequestCalls
 pub mod Service
 pub mod Silent
 pub mod Status

@@ -13,7 +13,6 @@ mod on_response;
 mod service;
 mod status;
 mod tail;
-mod text;
 
 pub use body::ResponseBody;
 pub use future::ResponseFuture;

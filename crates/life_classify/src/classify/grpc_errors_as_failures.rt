@@ -6,7 +6,6 @@ ghost use Rattle.life_classify.specs.declared.classify.grpc_errors_as_failures.c
 ghost use Rattle.life_classify.specs.declared.classify.grpc_errors_as_failures.code.GrpcCode.{GrpcCode};
 
 use crate::classify::shared_classifier::SharedClassifier;
-use crate::classify::text::text_of;
 use crate::classify::traits::{ClassifiedResponse, ClassifyEos, ClassifyResponse};
 use bitflags::Flags;
 use http::HeaderMap;
@@ -153,7 +152,7 @@ impl ClassifyResponse for GrpcErrorsAsFailures {
     }
 
     fn classify_error<E: Display>(self, alloc: Global, error: &E) -> Got<GrpcFailureClass> {
-        let text = text_of(alloc, error)?;
+        let text = Text::shown(alloc, error)?;
         Ok(GrpcFailureClass::Error(text))
     }
 }
@@ -231,7 +230,7 @@ impl ClassifyEos for GrpcEosErrorsAsFailures {
     }
 
     fn classify_error<E: Display>(self, alloc: Global, error: &E) -> Got<GrpcFailureClass> {
-        let text = text_of(alloc, error)?;
+        let text = Text::shown(alloc, error)?;
         Ok(GrpcFailureClass::Error(text))
     }
 }

@@ -3,7 +3,6 @@ ghost use Rattle.std.specs.Prelude.{◌≡◌, Ok};
 
 use crate::classify::never_classify_eos::NeverClassifyEos;
 use crate::classify::shared_classifier::SharedClassifier;
-use crate::classify::text::text_of;
 use crate::classify::traits::{ClassifiedResponse, ClassifyResponse};
 use http::StatusCode;
 use life_core::{Got, Response, Text, Twin};
@@ -77,7 +76,7 @@ impl ClassifyResponse for ServerErrorsAsFailures {
     }
 
     fn classify_error<E: Display>(self, alloc: Global, error: &E) -> Got<ServerErrorsFailureClass> {
-        let text = text_of(alloc, error)?;
+        let text = Text::shown(alloc, error)?;
         Ok(ServerErrorsFailureClass::Error(text))
     }
 }

@@ -4,7 +4,6 @@ ghost use Rattle.std.specs.Result.{OkIff};
 
 use crate::classify::never_classify_eos::NeverClassifyEos;
 use crate::classify::shared_classifier::SharedClassifier;
-use crate::classify::text::text_of;
 use crate::classify::traits::{ClassifiedResponse, ClassifyResponse};
 use http::StatusCode;
 use life_core::{Got, Response, Text, Twin};
@@ -91,7 +90,7 @@ impl ClassifyResponse for StatusInRangeAsFailures {
         alloc: Global,
         error: &E,
     ) -> Got<StatusInRangeFailureClass> {
-        let text = text_of(alloc, error)?;
+        let text = Text::shown(alloc, error)?;
         Ok(StatusInRangeFailureClass::Error(text))
     }
 }

@@ -163,6 +163,9 @@ where
 
     type Error = B::Error;
 
+    ghost use Rattle.life_core.specs.Moment.{moment_of, SameContext};
+    ghost use Rattle.life_trace.specs.HookCalls.{OrderlyBody};
+
     ghost frames = { TraceFrames B.frames B.ends C.classifies_eos C.classifies_error B.Error.output
         CH.sees_chunk EO.sees_eos FA.sees_failure };
 
@@ -171,11 +174,23 @@ where
     ghost hints = { λ b. B.hints b.inner };
 
     /// The inner body's answer, once the hooks have seen it. Where one is refused for memory, so is the poll,
-    /// and the answer is dropped.
+    /// and the answer is dropped. However the body is polled, this poll included, each hook is called as often,
+    /// in the order and with the times that `orderly` says.
+    #[tactic(auto, using(crate::proofs::HookOrder::body_in_order))]
     fn poll_frame(
         &mut self,
         cx: &mut Cx<'_, L>,
-    ) -> Got<Poll<Option<Result<Frame<B::Data>, B::Error>>>> {
+    ) -> Got<Poll<Option<Result<Frame<B::Data>, B::Error>>>>
+        requires { TraceBodyMay B.may C.may CH.may EO.may FA.may self.old }
+        ensures frames { TraceFrames B.frames B.ends C.classifies_eos C.classifies_error
+            B.Error.output CH.sees_chunk EO.sees_eos FA.sees_failure self.old
+            (L.recorded cx.old.rec.now) (moment_of cx.old) result
+            self.new (L.recorded cx.new.rec.now) }
+        ensures may { TraceBodyMay B.may C.may CH.may EO.may FA.may self.new }
+        ensures context { SameContext L.place cx.old cx.new }
+        ensures orderly { OrderlyBody B.frames B.ends C.classifies_eos C.classifies_error
+            B.Error.output CH.sees_chunk EO.sees_eos FA.sees_failure self.old }
+    {
         let now = cx.now;
         let mut inner_cx = Cx {
             now,

@@ -223,17 +223,37 @@ where
 {
     type Output = Result<Response<ResponseBody<B, C::ClassifyEos, CH, EO, FA>, X>, E>;
 
+    ghost use Rattle.life_core.specs.Poll.{IfReady, OnPending};
+    ghost use Rattle.life_trace.specs.RequestCalls.{OrderlyFuture};
+
     ghost live = { TraceFutureLive F.live };
 
     ghost polls = { TracePolls F.polls B.ends B.abandons C.classifies_response C.classifies_error
         E.output RS.sees_response FA.sees_failure };
 
     /// The inner future's answer, once the hooks have seen it. Where one is refused for memory, so is the poll,
-    /// and a response's body is abandoned.
+    /// and a response's body is abandoned. However the future is polled, this poll included, and then the body of
+    /// its response, each hook is called as often, in the order and with the times that `orderly` says.
+    #[tactic(auto, using(crate::proofs::RequestOrder::future_in_order))]
     fn poll(
         &mut self,
         cx: &mut Cx<'_, L>,
-    ) -> Got<Poll<Result<Response<ResponseBody<B, C::ClassifyEos, CH, EO, FA>, X>, E>>> {
+    ) -> Got<Poll<Result<Response<ResponseBody<B, C::ClassifyEos, CH, EO, FA>, X>, E>>>
+        requires live { TraceFutureLive F.live self.old }
+        requires may { TraceFutureMay F.may C.may RS.may CH.may EO.may FA.may self.old }
+        ensures polls { TracePolls F.polls B.ends B.abandons C.classifies_response
+            C.classifies_error E.output RS.sees_response FA.sees_failure self.old
+            (L.recorded cx.old.rec.now) (moment_of cx.old) result
+            self.new (L.recorded cx.new.rec.now) }
+        ensures live { IfOk result (λ answer. OnPending answer (TraceFutureLive F.live self.new)) }
+        ensures sound { IfOk result (λ answer. IfReady answer (λ settled. IfOk settled (λ r.
+            TraceBodyMay B.may C.ClassifyEos.may CH.may EO.may FA.may r.body))) }
+        ensures may { TraceFutureMay F.may C.may RS.may CH.may EO.may FA.may self.new }
+        ensures context { SameContext L.place cx.old cx.new }
+        ensures orderly { OrderlyFuture F.polls B.abandons B.ends C.classifies_response
+            C.classifies_error E.output RS.sees_response B.frames C.ClassifyEos.classifies_eos
+            C.ClassifyEos.classifies_error CH.sees_chunk EO.sees_eos FA.sees_failure self.old }
+    {
         let mut inner_cx = Cx {
             now: cx.now,
             span: &self.span,

@@ -8,10 +8,9 @@ ghost use Rattle.life_trace.specs.MakeSpan.{MakesTwin};
 
 use crate::trace::DEFAULT_MESSAGE_LEVEL;
 use crate::trace::headers::headers_told;
-use crate::trace::text::text_of;
 use http::Version;
 use http::request::Parts;
-use life_core::{Got, HookFn, Level, Request, Span, Twin};
+use life_core::{Got, HookFn, Level, Request, Span, Text, Twin};
 use std::alloc::Global;
 
 /// Makes the span in which a request is served.
@@ -133,7 +132,7 @@ fn request_span(alloc: Global, level: Level, parts: &Parts) -> Got<Span>
 {
     let mut span = Span::new(alloc, level, "request")?;
     span.put(alloc, "method", parts.method.as_str())?;
-    let uri = text_of(alloc, &parts.uri)?;
+    let uri = Text::shown(alloc, &parts.uri)?;
     span.put(alloc, "uri", uri.as_str())?;
     span.put(alloc, "version", version_text(parts.version))?;
     Ok(span)

@@ -8,9 +8,8 @@ ghost use Rattle.life_trace.specs.DefaultOnFailure.{RecordsFailure, default_on_f
 ghost use Rattle.life_trace.specs.Hooks.{SeesFailure};
 ghost use Rattle.life_trace.specs.Silent.{Silent};
 
-use crate::trace::text::text_of;
 use crate::trace::{DEFAULT_ERROR_LEVEL, DEFAULT_LATENCY_UNIT};
-use life_core::{Event, Got, HookFn, Latency, LatencyUnit, Level, Recorder, Span, Twin};
+use life_core::{Event, Got, HookFn, Latency, LatencyUnit, Level, Recorder, Span, Text, Twin};
 use std::alloc::Global;
 use std::fmt::Display;
 
@@ -152,7 +151,7 @@ impl<C: Display + Drop, L: Recorder> OnFailure<C, L> for DefaultOnFailure {
         _span: &Span,
         rec: &mut L,
     ) -> Got<()> {
-        let class = text_of(alloc, &failure_classification)?;
+        let class = Text::shown(alloc, &failure_classification)?;
         rec.note(Event::Failed {
             level: self.level,
             class,

@@ -284,7 +284,11 @@ where
 
     type Future = ResponseFuture<S::Future, M::Classifier, RS, CH, EO, FA>;
 
+    ghost use Rattle.std.specs.Prelude.{IfOk};
     ghost use Rattle.life_core.specs.Calls.{Forwards};
+    ghost use Rattle.life_core.specs.Moment.{moment_of, SameContext};
+    ghost use Rattle.life_trace.specs.Future.{TraceFutureLive, TraceFutureMay};
+    ghost use Rattle.life_trace.specs.RequestCalls.{OrderlyFuture};
     ghost use Rattle.life_trace.specs.Service.{TraceMay, TraceCalls};
 
     ghost may = { TraceMay S.may M.may MS.may RQ.may RS.may CH.may EO.may FA.may };
@@ -299,12 +303,30 @@ where
 
     /// Makes the span, makes the classifier, calls the hook of requests, takes twins of the later four hooks, and
     /// then calls the inner service in the span. Where one before that call is refused for memory, the request's
-    /// body is abandoned.
+    /// body is abandoned. The hook of requests is called once where there is a future, as `calls` says. However the
+    /// future is then polled, and the body of its response, each other hook is called as often, in the order and with
+    /// the times that `orderly` says.
+    #[tactic(auto, using(crate::proofs::RequestOrder::future_in_order))]
     fn call(
         &mut self,
         req: Request<B, X>,
         cx: &mut Cx<'_, L>,
-    ) -> Got<ResponseFuture<S::Future, M::Classifier, RS, CH, EO, FA>> {
+    ) -> Got<ResponseFuture<S::Future, M::Classifier, RS, CH, EO, FA>>
+        requires may { TraceMay S.may M.may MS.may RQ.may RS.may CH.may EO.may FA.may self.old }
+        requires sound { B.may req.body }
+        ensures calls { TraceCalls S.calls M.makes MS.makes_span RQ.sees_request B.abandons
+            self.old req (L.recorded cx.old.rec.now) (moment_of cx.old) result
+            self.new (L.recorded cx.new.rec.now) }
+        ensures may { TraceMay S.may M.may MS.may RQ.may RS.may CH.may EO.may FA.may self.new }
+        ensures live { IfOk result (TraceFutureLive S.Future.live) }
+        ensures future_may { IfOk result
+            (TraceFutureMay S.Future.may M.Classifier.may RS.may CH.may EO.may FA.may) }
+        ensures context { SameContext L.place cx.old cx.new }
+        ensures orderly { IfOk result (OrderlyFuture S.Future.polls C.abandons C.ends
+            M.Classifier.classifies_response M.Classifier.classifies_error E.output
+            RS.sees_response C.frames M.ClassifyEos.classifies_eos
+            M.ClassifyEos.classifies_error CH.sees_chunk EO.sees_eos FA.sees_failure) }
+    {
         let start = cx.now;
         let Begun { span, hooks } = match self.layer.begin(cx.alloc, &req, cx.rec) {
             Ok(begun) => begun,
