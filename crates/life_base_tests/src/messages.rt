@@ -80,6 +80,27 @@ fn twin_of_a_request(rt: HostRuntime) {
     let Empty = body;
 }
 
+/// Asserts what a twin of a method is.
+fn method_twin_is(rt: &impl Abort, alloc: Global, method: &Method, want: &str) {
+    let twin = method.twin(alloc).expect(rt, "memory");
+    text_is(rt, "a twin", twin.as_str(), want);
+}
+
+/// Asserts that a twin of the method of this text is of this text too.
+fn named_twin_is(rt: &impl Abort, alloc: Global, text: &str) {
+    let method = Method::from_bytes(alloc, text.as_bytes()).expect(rt, "a method");
+    method_twin_is(rt, alloc, &method, text);
+}
+
+#[test]
+fn twins_of_methods(rt: HostRuntime) {
+    let alloc = rt.alloc();
+    method_twin_is(&rt, alloc, &Method::DELETE, "DELETE");
+    named_twin_is(&rt, alloc, "get");
+    named_twin_is(&rt, alloc, "FOO");
+    named_twin_is(&rt, alloc, "A-METHOD-OF-MORE-THAN-15-BYTES");
+}
+
 /// Asserts what is lent of a request to be changed, where nothing was changed yet.
 fn request_lends(rt: &impl Abort, request: &mut Request<Empty, u64>) {
     holds(rt, "no headers", request.headers_mut().is_empty());

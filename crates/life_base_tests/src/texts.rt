@@ -111,6 +111,30 @@ fn kept_texts(rt: HostRuntime) {
     is_hi(&rt, alloc, &Text::copy(alloc, "hi").expect(&rt, "memory"));
 }
 
+/// Asserts what is kept of what a value shows.
+fn kept_as_shown(rt: &impl Abort, alloc: Global, value: &impl fmt::Display, want: &str) {
+    let text = Text::shown(alloc, value).expect(rt, "memory");
+    text_is(rt, "what it shows", text.as_str(), want);
+}
+
+#[test]
+fn texts_of_what_is_shown(rt: HostRuntime) {
+    let alloc = rt.alloc();
+    kept_as_shown(&rt, alloc, &Level::Warn, "WARN");
+    kept_as_shown(&rt, alloc, &7u64, "7");
+    kept_as_shown(&rt, alloc, &"", "");
+    let want = "data was not received within the designated timeout";
+    kept_as_shown(&rt, alloc, &BodyError::<u64>::Elapsed, want);
+}
+
+#[test]
+fn texts_written(rt: HostRuntime) {
+    let alloc = rt.alloc();
+    let text = Text::copy(alloc, "a \"b\" \u{e9}\n").expect(&rt, "memory");
+    written(&rt, alloc, &text, "a \"b\" \u{e9}\n");
+    kept_as_shown(&rt, alloc, &text, "a \"b\" \u{e9}\n");
+}
+
 #[test]
 fn kept_bytes(rt: HostRuntime) {
     let alloc = rt.alloc();

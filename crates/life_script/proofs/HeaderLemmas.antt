@@ -15,23 +15,23 @@ test_from : (text : List ℕ) → IsFieldName text → is_field_name text ≡ tr
 unfolding is_token_byte
 test_from text h = let tokens = list_all-from_AllPass token_test text h.0.1 in let some = h.0.0 in let short = h.1 in grind (arith, nat_tests, tokens)
 
-pub name_good : (text name : List ℕ) → ((IsFieldName text → ⊥) → ⊥) → name ≡ lowercase text → Some name ≡ as_name text
+pub name_good : (text name : List ℕ) → ((IsFieldName text → ⊥) → ⊥) → name ≡ lowercase text → as_name text ≡ Some name
 name_good text name not_not e = by_test (is_field_name text) refl
   where
-    by_test : (b : Bool) → is_field_name text ≡ b → Some name ≡ as_name text
-    by_test true t = sym (ap (λ (b : Bool). cond b (Some (lowercase text)) None) t ∙ ap (λ (n : List ℕ). Some n) (sym e))
+    by_test : (b : Bool) → is_field_name text ≡ b → as_name text ≡ Some name
+    by_test true t = ap (λ (b : Bool). cond b (Some (lowercase text)) None) t ∙ ap (λ (n : List ℕ). Some n) (sym e)
     by_test false t = absurd (not_not (λ h. false≢true (sym t ∙ test_from text h)))
 
-pub name_bad : (text : List ℕ) → (IsFieldName text → ⊥) → None ≡ as_name text
+pub name_bad : (text : List ℕ) → (IsFieldName text → ⊥) → as_name text ≡ None
 name_bad text h = by_test (is_field_name text) refl
   where
-    by_test : (b : Bool) → is_field_name text ≡ b → None ≡ as_name text
+    by_test : (b : Bool) → is_field_name text ≡ b → as_name text ≡ None
     by_test true e = absurd (h (IsFieldName-from_test text e))
-    by_test false e = sym (ap (λ (b : Bool). cond b (Some (lowercase text)) None) e)
+    by_test false e = ap (λ (b : Bool). cond b (Some (lowercase text)) None) e
 
-pub value_good : (text : List ℕ) (value : FieldValue) → ((IsFieldValue text → ⊥) → ⊥) → value ≡ plain_value text → Some value ≡ as_value text
+pub value_good : (text : List ℕ) (value : FieldValue) → ((IsFieldValue text → ⊥) → ⊥) → value ≡ plain_value text → as_value text ≡ Some value
 value_good text value not_not e = by_test (list_all is_value_byte text) refl
   where
-    by_test : (b : Bool) → list_all is_value_byte text ≡ b → Some value ≡ as_value text
-    by_test true t = sym (ap (λ (b : Bool). cond b (Some (plain_value text)) None) t ∙ ap (λ (v : FieldValue). Some v) (sym e))
+    by_test : (b : Bool) → list_all is_value_byte text ≡ b → as_value text ≡ Some value
+    by_test true t = ap (λ (b : Bool). cond b (Some (plain_value text)) None) t ∙ ap (λ (v : FieldValue). Some v) (sym e)
     by_test false t = absurd (not_not (λ h. false≢true (sym t ∙ list_all-from_AllPass is_value_byte text h)))

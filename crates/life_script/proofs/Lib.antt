@@ -3,3 +3,5 @@ pub mod HeaderLemmas
 pub mod HeaderMaps
 pub mod ReadingLemmas
 pub mod ReadingParts
+pub mod Requests
+pub mod Targets

@@ -1,12 +1,12 @@
 -- How the values of an array are read.
-use Rattle.std.proofs.Common.{◌≡◌, ℕ, suc, ◌+◌, ◌<◌, ◌⊎◌, inl, inr, List, [], ◌∷◌, ◌++◌, length, map, take, get_or, zero, Bool, true, false, cond, Option, Some, None, sym, refl, ap, ◌∙◌, subst, arith, add-one}
+use Rattle.std.proofs.Common.{◌≡◌, ℕ, suc, ◌+◌, ◌<◌, ◌⊎◌, inl, inr, List, [], ◌∷◌, ◌++◌, length, map, take, get_or, zero, Option, Some, None, sym, refl, ap, ◌∙◌, subst, arith, add-one}
 use Rattle.std.proofs.lemmas.List.{length-map, map-append}
 use Rattle.std.proofs.Math.Seq.{take-suc}
 use Rattle.serde_json.specs.Data.{Data, Items}
 use Rattle.serde_json.specs.Find.{as_array}
 use Rattle.serde_json.specs.View.{view, items_of}
 use Rattle.serde_json.specs.declared.value.Value.{Value}
-use Rattle.life_script.specs.Reading.{Read, Bad, Unbuilt, Good, read_both, all_of, list_of, step_from, step_of, ◌>>=◌}
+use Rattle.life_script.specs.Reading.{Read, Bad, Good, read_both, all_of, list_of, step_from, step_of, ◌>>=◌}
 
 -- the items of an array are those that its value was made of
 pub list-items : (xs : List Data) → list_of (items_of xs) ≡ xs
@@ -32,7 +32,6 @@ no_step d xs e h =
 
 bad_second : {A B C : Type 0} (f : A → B → C) (r : Read A) → read_both f r Bad ≡ Bad
 bad_second f Bad = refl
-bad_second f Unbuilt = refl
 bad_second f (Good a) = refl
 
 bad_at : {A : Type 0} (f : Data → Read A) (xs : List Value) (k : ℕ) (x : Value) → k < length xs → f (view (get_or xs k x)) ≡ Bad → all_of f (map view xs) ≡ Bad
@@ -46,30 +45,18 @@ pub all_of-bad : {A : Type 0} (f : Data → Read A) (xs : List Value) (k : ℕ) 
 all_of-bad f xs k x lt is e = bad_at f xs k x lt (ap (λ (y : Value). f (view y)) (sym is) ∙ e)
 
 -- the last of a list joins those before it
-abbrev pub join_last : {A : Type 0} → Read (List A) → Read A → Read (List A)
+abbrev join_last : {A : Type 0} → Read (List A) → Read A → Read (List A)
 join_last = read_both (λ xs x. xs ++ x ∷ [])
 
 first_joins : {A : Type 0} (first : Read A) (rest : Read (List A)) (last : Read A)
     → read_both (λ x xs. x ∷ xs) first (join_last rest last) ≡ join_last (read_both (λ x xs. x ∷ xs) first rest) last
 first_joins Bad rest last = refl
-first_joins Unbuilt Bad last = refl
-first_joins Unbuilt Unbuilt Bad = refl
-first_joins Unbuilt Unbuilt Unbuilt = refl
-first_joins Unbuilt Unbuilt (Good x) = refl
-first_joins Unbuilt (Good xs) Bad = refl
-first_joins Unbuilt (Good xs) Unbuilt = refl
-first_joins Unbuilt (Good xs) (Good x) = refl
 first_joins (Good y) Bad last = refl
-first_joins (Good y) Unbuilt Bad = refl
-first_joins (Good y) Unbuilt Unbuilt = refl
-first_joins (Good y) Unbuilt (Good x) = refl
 first_joins (Good y) (Good xs) Bad = refl
-first_joins (Good y) (Good xs) Unbuilt = refl
 first_joins (Good y) (Good xs) (Good x) = refl
 
 only_last : {A : Type 0} (last : Read A) → read_both (λ x xs. x ∷ xs) last (Good []) ≡ join_last (Good []) last
 only_last Bad = refl
-only_last Unbuilt = refl
 only_last (Good x) = refl
 
 all_of-last : {A : Type 0} (f : Data → Read A) (ds : List Data) (d : Data) → all_of f (ds ++ d ∷ []) ≡ join_last (all_of f ds) (f d)
@@ -78,35 +65,13 @@ all_of-last f [] d = only_last (f d)
 all_of-last f (e ∷ ds) d = ap (λ r. read_both (λ x xs. x ∷ xs) (f e) r) (all_of-last f ds d) ∙ first_joins (f e) (all_of f ds) (f d)
 
 -- one value more
-pub all_of-next : {A : Type 0} (f : Data → Read A) (xs : List Value) (k : ℕ) (x : Value) → k < length xs → x ≡ get_or xs k x
-    → all_of f (map view (take (k + 1) xs)) ≡ join_last (all_of f (map view (take k xs))) (f (view x))
-all_of-next f xs k x lt is =
+pub one_more : (xs : List Value) (k : ℕ) (x : Value) → k < length xs → x ≡ get_or xs k x → map view (take (k + 1) xs) ≡ map view (take k xs) ++ view x ∷ []
+one_more xs k x lt is =
     let more : take (k + 1) xs ≡ take k xs ++ x ∷ [] = rw add-one (take-suc xs k x lt ∙ ap (λ (y : Value). take k xs ++ y ∷ []) (sym is)) in
-    ap (λ (ys : List Value). all_of f (map view ys)) more
-    ∙ (ap (all_of f) (map-append view (take k xs) (x ∷ [])) ∙ all_of-last f (map view (take k xs)) (view x))
+    ap (λ (ys : List Value). map view ys) more ∙ map-append view (take k xs) (x ∷ [])
 
--- what was read so far, and whether all of it is built
-abbrev pub so_far : {A : Type 0} → Bool → List A → Read (List A)
-so_far is_built xs = cond is_built (Good xs) Unbuilt
-
-join_good : {A : Type 0} (is_built : Bool) (xs : List A) (x : A) → join_last (so_far is_built xs) (Good x) ≡ so_far is_built (xs ++ x ∷ [])
-join_good true xs x = refl
-join_good false xs x = refl
-
-join_unbuilt : {A : Type 0} (is_built : Bool) (xs : List A) → join_last (so_far is_built xs) Unbuilt ≡ Unbuilt
-join_unbuilt true xs = refl
-join_unbuilt false xs = refl
-
-pub next_good : {A : Type 0} (f : Data → Read A) (xs : List Value) (k : ℕ) (x : Value) (is_built : Bool) (done : List A) (part : A) → k < length xs → x ≡ get_or xs k x
-    → all_of f (map view (take k xs)) ≡ so_far is_built done → f (view x) ≡ Good part → all_of f (map view (take (k + 1) xs)) ≡ so_far is_built (done ++ part ∷ [])
-next_good f xs k x is_built done part lt is before e =
-    let next = all_of-next f xs k x lt is in
-    let joined = join_good is_built done part in
-    next ∙ (ap (λ r. join_last r (f (view x))) before ∙ (ap (λ r. join_last (so_far is_built done) r) e ∙ joined))
-
-pub next_unbuilt : {A : Type 0} (f : Data → Read A) (xs : List Value) (k : ℕ) (x : Value) (is_built : Bool) (done : List A) → k < length xs → x ≡ get_or xs k x
-    → all_of f (map view (take k xs)) ≡ so_far is_built done → f (view x) ≡ Unbuilt → all_of f (map view (take (k + 1) xs)) ≡ Unbuilt
-next_unbuilt f xs k x is_built done lt is before e =
-    let next = all_of-next f xs k x lt is in
-    let joined = join_unbuilt is_built done in
-    next ∙ (ap (λ r. join_last r (f (view x))) before ∙ (ap (λ r. join_last (so_far is_built done) r) e ∙ joined))
+pub next_good : {A : Type 0} (f : Data → Read A) (xs : List Value) (k : ℕ) (x : Value) (done : List A) (part : A) → k < length xs → x ≡ get_or xs k x
+    → all_of f (map view (take k xs)) ≡ Good done → f (view x) ≡ Good part → all_of f (map view (take (k + 1) xs)) ≡ Good (done ++ part ∷ [])
+next_good f xs k x done part lt is before e =
+    ap (all_of f) (one_more xs k x lt is)
+    ∙ (all_of-last f (map view (take k xs)) (view x) ∙ (ap (λ r. join_last r (f (view x))) before ∙ ap (join_last (Good done)) e))

@@ -1,13 +1,16 @@
 -- What the bytes of a scenario say.
-use Rattle.std.specs.Prelude.{◌≡◌, ◌⊎◌, ℕ, ◌==◌, ◌&&◌, ◌||◌, List, [], ◌∷◌, Bool, false, cond, codes, bytes_eq, nat_le, is_some, unwrap_or, Option, Some, None, option_map, Result, Err, IsUtf8}
+use Rattle.std.specs.Prelude.{◌≡◌, ◌⊎◌, ℕ, ◌==◌, ◌&&◌, List, [], ◌∷◌, Bool, false, cond, codes, bytes_eq, nat_le, is_some, unwrap_or, Option, Some, None, option_map, IsSomeAnd, IsTrue, Result, Err, IsUtf8, ⊤}
 use Rattle.std.specs.List.{list_all}
 use Rattle.http_header.specs.FieldName.{is_field_name}
 use Rattle.http_header.specs.FieldValue.{FieldValue, plain_value}
-use Rattle.http_header.specs.Token.{lowercase, is_value_byte}
+use Rattle.http_header.specs.Token.{lowercase, is_value_byte, IsToken}
+use Rattle.http_uri.specs.Uri.{Spells}
+use Rattle.http_uri.specs.declared.uri.Uri.{Uri}
 use Rattle.serde_json.specs.Data.{Data, Items, no_items, item}
 use Rattle.serde_json.specs.Find.{get, as_null, as_number, as_u64, as_bool, as_str, as_array}
 use Rattle.serde_json.specs.Read.{read as read_text}
-use Rattle.life_core.specs.List.{Listed}
+use Rattle.life_classify.specs.declared.classify.drive_classifier.DriveClassifier.{DriveClassifier}
+use Rattle.life_classify.specs.declared.classify.drive_classifier.DriveClassifier.TheVariants.{Http, Grpc}
 use Rattle.life_core.specs.declared.fault.PanicText.{PanicText}
 use Rattle.life_core.specs.declared.fault.PanicText.TheVariants.{Known, Unknown}
 use Rattle.life_script.specs.declared.error.ReadError.{ReadError}
@@ -27,25 +30,10 @@ use Rattle.life_script.specs.Headers.{Headers}
 use Rattle.life_script.specs.Scenario.{ScriptView, ScenarioView}
 use Rattle.life_script.specs.Reply.{ReplyView}
 
--- What a part says: it has not the shape, it has the shape with something in it that is not built yet,
--- or it is good.
+-- what a part says: it has not the shape, or it is good
 pub data Read (A : Type 0) : Type 0 where
   Bad : Read A
-  Unbuilt : Read A
   Good : A → Read A
-
--- what was read, where none is what is not built yet
-abbrev pub if_built : {A : Type 0} → Option A → Read A
-if_built None = Unbuilt
-if_built (Some a) = Good a
-
--- the same of a list, by its items
-abbrev pub if_list_built : {A : Type 0} → Option (Listed A) → Read (List A)
-if_list_built list = if_built (option_map (λ found. found.items) list)
-
--- the same of a part and a list
-abbrev pub if_pair_built : {A B : Type 0} → Option (A × Listed B) → Read (A × List B)
-if_pair_built pair = if_built (option_map (λ both. (both.0, both.1.items)) pair)
 
 -- ---- parts put together
 
@@ -63,22 +51,12 @@ needs (Some a) f = f a
 -- a good part, made into another
 abbrev pub read_map : {A B : Type 0} → (A → B) → Read A → Read B
 read_map f Bad = Bad
-read_map f Unbuilt = Unbuilt
 read_map f (Good a) = Good (f a)
 
--- two parts: a bad one beats one that is not built, and that beats a good one
+-- two parts, of which both must be good
 abbrev pub read_both : {A B C : Type 0} → (A → B → C) → Read A → Read B → Read C
 read_both f Bad b = Bad
-read_both f Unbuilt Bad = Bad
-read_both f Unbuilt Unbuilt = Unbuilt
-read_both f Unbuilt (Good b) = Unbuilt
 read_both f (Good a) b = read_map (f a) b
-
--- a part beside which something stands that is not built yet, where the test says so
-abbrev pub unbuilt_if : {A : Type 0} → Bool → Read A → Read A
-unbuilt_if b Bad = Bad
-unbuilt_if b Unbuilt = Unbuilt
-unbuilt_if b (Good a) = cond b Unbuilt (Good a)
 
 -- the values of a list, each read by f
 unfoldable pub all_of : {A : Type 0} → (Data → Read A) → List Data → Read (List A)
@@ -144,6 +122,10 @@ is_string text d = unwrap_or (option_map (λ s. bytes_eq s text) (as_str d)) fal
 abbrev pub string_at : List ℕ → Data → Option (List ℕ)
 string_at key d = get key d >>= as_str
 
+-- true or false, at a key
+abbrev pub bool_at : List ℕ → Data → Option Bool
+bool_at key d = get key d >>= as_bool
+
 -- a header name, which is kept in lower case
 abbrev pub as_name : List ℕ → Option (List ℕ)
 as_name text = cond (is_field_name text) (Some (lowercase text)) None
@@ -157,6 +139,14 @@ gate_of d =
     string_at (codes "gate_value") d >>= λ value.
     Some (name, value)
 
+-- the classifier of this name
+abbrev pub as_classifier : List ℕ → Option DriveClassifier
+as_classifier text = cond (bytes_eq text (codes "http")) (Some Http) (cond (bytes_eq text (codes "grpc")) (Some Grpc) None)
+
+-- the classifier at a key
+abbrev pub classifier_at : List ℕ → Data → Option DriveClassifier
+classifier_at key d = string_at key d >>= as_classifier
+
 -- how the layers are set, where the gate is set so
 abbrev pub limits_with : Data → List ℕ × List ℕ → Option Limits
 limits_with d gate =
@@ -164,19 +154,13 @@ limits_with d gate =
     status_at (codes "timeout_status") d >>= λ status.
     number_at (codes "body_deadline") d >>= λ deadline.
     number_at (codes "byte_limit") d >>= λ bytes.
-    Some (record { timeout = timeout; timeout_status = status; body_deadline = deadline; byte_limit = bytes; gate_name = gate.0; gate_value = gate.1 })
+    classifier_at (codes "classifier") d >>= λ classifier.
+    bool_at (codes "span_headers") d >>= λ span_headers.
+    Some (record { timeout = timeout; timeout_status = status; body_deadline = deadline; byte_limit = bytes; gate_name = gate.0; gate_value = gate.1; classifier = classifier; span_headers = span_headers })
 
 -- how the layers are set
 abbrev pub limits_of : Data → Option Limits
 limits_of d = gate_of d >>= limits_with d
-
--- whether limits have a key that is not built yet
-abbrev pub has_unbuilt_limit : Data → Bool
-has_unbuilt_limit d = has_key (codes "classifier") d || has_key (codes "span_headers") d
-
--- the limits
-abbrev pub limits_part : Data → Read Limits
-limits_part d = unbuilt_if (has_unbuilt_limit d) (needs (limits_of d) Good)
 
 -- ---- the client
 
@@ -254,7 +238,7 @@ message_part d = read_both (λ headers body. (headers, body)) (headers_at (codes
 abbrev pub reply_part : Data → Read ReplyView
 reply_part d =
     needs (status_at (codes "status") d) (λ status.
-    needs (get (codes "tells") d >>= as_bool) (λ tells.
+    needs (bool_at (codes "tells") d) (λ tells.
     read_map (λ message. record { status = status; headers = message.0; body = message.1; tells = tells }) (message_part d)))
 
 -- the text of a panic, where null stands for an unknown one
@@ -285,14 +269,28 @@ service_part d =
     needs (get (codes "call") d) (λ call.
     read_both (λ item polls. (item, polls)) (call_part call) (all_at poll_item_part (codes "polls") d))
 
--- whether a request has a key that is not built yet
-abbrev pub has_unbuilt_request : Data → Bool
-has_unbuilt_request d = has_key (codes "method") d || has_key (codes "uri") d
+-- ---- the requests
 
--- the script of a request
-abbrev pub script_part : Data → Read ScriptView
-script_part d = unbuilt_if (has_unbuilt_request d) (
-    read_both (λ message service. record { headers = message.0; body = message.1; call = service.0; polls = service.1 }) (message_part d) (service_part d))
+-- the string at `method` is this method
+abbrev pub HasMethod : Data → List ℕ → Type 0
+HasMethod d method = (string_at (codes "method") d ≡ Some method) × IsToken method
+
+-- the string at `uri` spells this target
+abbrev pub HasTarget : Data → Uri → Type 0
+HasTarget d uri = IsSomeAnd (string_at (codes "uri") d) (λ text. Spells text uri)
+
+-- an object is a request with this script
+abbrev pub IsScript : Data → ScriptView → Type 0
+IsScript d script =
+    HasMethod d script.method × HasTarget d script.uri
+    × (message_part d ≡ Good (script.headers, script.body)) × (service_part d ≡ Good (script.call, script.polls))
+
+-- the values of an array are requests with these scripts, one by one
+unfoldable pub AreScripts : List Data → List ScriptView → Type 0
+AreScripts [] [] = ⊤
+AreScripts [] (script ∷ scripts) = ⊥
+AreScripts (d ∷ ds) [] = ⊥
+AreScripts (d ∷ ds) (script ∷ scripts) = IsScript d script × AreScripts ds scripts
 
 -- ---- the whole
 
@@ -300,30 +298,24 @@ script_part d = unbuilt_if (has_unbuilt_request d) (
 abbrev pub is_version_1 : Data → Bool
 is_version_1 d = unwrap_or (option_map (λ n. n == 1) (number_at (codes "version") d)) false
 
--- the scripts, the steps and the end
-abbrev pub scenario_part : Data → Read ScenarioView
-scenario_part d =
-    needs (number_at (codes "end") d) (λ end.
-    read_both (λ requests steps. record { requests = requests; steps = steps; end = end }) (all_at script_part (codes "requests") d) (all_at step_part (codes "steps") d))
+-- an object has these scripts, these steps and this end
+abbrev pub HasScenario : Data → ScenarioView → Type 0
+HasScenario d scenario =
+    IsSomeAnd (items_at (codes "requests") d) (λ ds. AreScripts ds scenario.requests)
+    × (all_at step_part (codes "steps") d ≡ Good scenario.steps) × (number_at (codes "end") d ≡ Some scenario.end)
 
--- what the tree of a text says
-abbrev pub shape : Data → Read (Limits × ScenarioView)
-shape d =
-    cond (is_version_1 d) (
-    needs (get (codes "limits") d) (λ limits.
-    read_both (λ l s. (l, s)) (limits_part limits) (scenario_part d))) Bad
+-- the tree of a text says these limits and this scenario
+abbrev pub IsScenario : Data → Limits → ScenarioView → Type 0
+IsScenario d limits scenario =
+    IsTrue (is_version_1 d) × (get (codes "limits") d >>= limits_of ≡ Some limits) × HasScenario d scenario
 
 -- the bytes say these limits and this scenario
 abbrev pub Reads : List ℕ → Limits → ScenarioView → Type 0
-Reads bytes limits scenario = IsUtf8 bytes × ((d : Data) × (read_text bytes ≡ Some d) × (shape d ≡ Good (limits, scenario)))
+Reads bytes limits scenario = IsUtf8 bytes × ((d : Data) × (read_text bytes ≡ Some d) × IsScenario d limits scenario)
 
--- the bytes are not UTF-8, or have no reading as JSON, or the tree has not the shape
+-- the bytes say none: they are not UTF-8, or have no reading as JSON, or the tree is no scenario
 abbrev pub IsBadScenario : List ℕ → Type 0
-IsBadScenario bytes = IsUtf8 bytes → (d : Data) → read_text bytes ≡ Some d → shape d ≡ Bad
-
--- the tree has the shape, with something in it that is not built yet
-abbrev pub IsNotBuilt : List ℕ → Type 0
-IsNotBuilt bytes = IsUtf8 bytes × ((d : Data) × (read_text bytes ≡ Some d) × (shape d ≡ Unbuilt))
+IsBadScenario bytes = (limits : Limits) (scenario : ScenarioView) → ¬ (Reads bytes limits scenario)
 
 -- this answer, or want of memory
 abbrev pub OrNoMemory : {A : Type 0} → Result A ReadError → Result A ReadError → Type 0

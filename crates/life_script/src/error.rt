@@ -34,9 +34,6 @@ pub enum ReadError {
     /// They have not the shape of a scenario.
     #[error("bad scenario")]
     BadScenario,
-    /// They ask for what is not there yet.
-    #[error("not built")]
-    NotBuilt,
     /// Memory is wanted.
     #[error("out of memory")]
     NoMemory,

@@ -1,34 +1,33 @@
 //! Scenarios read from bytes.
 ghost use Rattle.std.specs.Prelude.{◌≡◌, IfOk};
 ghost use Rattle.serde_json.specs.View.{view};
-ghost use Rattle.life_script.specs.Reading.{Bad, OrNoMemory, if_built, Reads, IsBadScenario, IsNotBuilt, is_version_1, scenario_part, shape};
+ghost use Rattle.life_script.specs.Reading.{OrNoMemory, Reads, IsBadScenario, is_version_1, HasScenario, IsScenario};
 
 mod client;
 mod fields;
 mod header;
 mod layers;
 mod part;
+mod request;
 mod service;
 
 use crate::error::ReadError;
-use crate::scenario::{Limits, Scenario, Script, Step};
-use fields::number_at;
+use crate::scenario::{Limits, Scenario, Step};
+use fields::{items_at, number_at};
 use layers::read_limits;
-use part::{Built, read_all_at};
+use part::read_all_at;
+use request::read_scripts;
 use serde_json::Value;
 use std::alloc::Global;
 
 /// Reads a scenario. It is bad where the bytes are not UTF-8 or not JSON, or have not the shape of a
-/// scenario; it is not built where they have, and something in it is not there yet. So each answer but want
-/// of memory comes by its cause, and by nothing else.
+/// scenario. So each answer but want of memory comes by its cause, and by nothing else.
 pub fn read_scenario(alloc: Global, bytes: &[u8]) -> Result<(Limits, Scenario), ReadError>
     ensures read { IfOk result (λ read. Reads bytes.now read.0 read.1) }
     ensures bad { result ≡ Err ReadError.BadScenario → IsBadScenario bytes.now }
-    ensures not_built { result ≡ Err ReadError.NotBuilt → IsNotBuilt bytes.now }
     ensures whole { (limits : _) (scenario : _) → Reads bytes.now limits scenario
         → OrNoMemory result (Ok (limits, scenario)) }
     ensures each_bad { IsBadScenario bytes.now → OrNoMemory result (Err ReadError.BadScenario) }
-    ensures each_unbuilt { IsNotBuilt bytes.now → OrNoMemory result (Err ReadError.NotBuilt) }
 {
     read_text(alloc, bytes)
 }
@@ -37,13 +36,9 @@ pub fn read_scenario(alloc: Global, bytes: &[u8]) -> Result<(Limits, Scenario), 
 fn read_text(alloc: Global, bytes: &[u8]) -> Result<(Limits, Scenario), ReadError>
     ensures read { IfOk result (λ read. Reads bytes.now read.0 read.1) }
     ensures bad { result ≡ Err ReadError.BadScenario → IsBadScenario bytes.now }
-    ensures not_built { result ≡ Err ReadError.NotBuilt → IsNotBuilt bytes.now }
 {
     match Value::from_slice(alloc, bytes) {
-        Ok(top) => match read_top(alloc, &top)? {
-            Some(read) => Ok(read),
-            None => Err(ReadError::NotBuilt),
-        },
+        Ok(top) => read_top(alloc, &top),
         Err(error) => {
             if error.is_memory() {
                 Err(ReadError::NoMemory)
@@ -55,10 +50,10 @@ fn read_text(alloc: Global, bytes: &[u8]) -> Result<(Limits, Scenario), ReadErro
 }
 
 /// Reads the tree of a text.
-fn read_top(alloc: Global, top: &Value) -> Built<(Limits, Scenario)>
-    ensures ok { IfOk result (λ read. shape (view top.now) ≡ if_built read) }
-    ensures bad { result ≡ Err ReadError.BadScenario → shape (view top.now) ≡ Bad }
-    ensures never { ¬ (result ≡ Err ReadError.NotBuilt) }
+fn read_top(alloc: Global, top: &Value) -> Result<(Limits, Scenario), ReadError>
+    ensures ok { IfOk result (λ read. IsScenario (view top.now) read.0 read.1) }
+    ensures bad { result ≡ Err ReadError.BadScenario →
+        (limits : _) (scenario : _) → ¬ (IsScenario (view top.now) limits scenario) }
 {
     if !is_version_1(top) {
         return Err(ReadError::BadScenario);
@@ -68,10 +63,7 @@ fn read_top(alloc: Global, top: &Value) -> Built<(Limits, Scenario)>
     };
     let limits = read_limits(alloc, limits)?;
     let scenario = read_parts(alloc, top)?;
-    match (limits, scenario) {
-        (Some(limits), Some(scenario)) => Ok(Some((limits, scenario))),
-        _ => Ok(None),
-    }
+    Ok((limits, scenario))
 }
 
 /// Whether the version is the one that is read.
@@ -82,22 +74,22 @@ fn is_version_1(top: &Value) -> bool
 }
 
 /// Reads the requests, the steps and the end.
-fn read_parts(alloc: Global, top: &Value) -> Built<Scenario>
-    ensures ok { IfOk result (λ scenario. scenario_part (view top.now) ≡ if_built scenario) }
-    ensures bad { result ≡ Err ReadError.BadScenario → scenario_part (view top.now) ≡ Bad }
-    ensures never { ¬ (result ≡ Err ReadError.NotBuilt) }
+fn read_parts(alloc: Global, top: &Value) -> Result<Scenario, ReadError>
+    ensures ok { IfOk result (HasScenario (view top.now)) }
+    ensures bad { result ≡ Err ReadError.BadScenario →
+        (scenario : _) → ¬ (HasScenario (view top.now) scenario) }
 {
+    let Some(requests) = items_at(top, "requests") else {
+        return Err(ReadError::BadScenario);
+    };
+    let requests = read_scripts(alloc, requests)?;
+    let steps = read_all_at::<Step>(alloc, top, "steps")?;
     let Some(end) = number_at(top, "end") else {
         return Err(ReadError::BadScenario);
     };
-    let requests = read_all_at::<Script>(alloc, top, "requests")?;
-    let steps = read_all_at::<Step>(alloc, top, "steps")?;
-    match (requests, steps) {
-        (Some(requests), Some(steps)) => Ok(Some(Scenario {
-            requests,
-            steps,
-            end,
-        })),
-        _ => Ok(None),
-    }
+    Ok(Scenario {
+        requests,
+        steps,
+        end,
+    })
 }

@@ -2,7 +2,8 @@
 ghost use Rattle.std.specs.Prelude.{◌≡◌, IfOk};
 
 use crate::headers::HeaderList;
-use http::{HeaderName, StatusCode};
+use http::{HeaderName, Method, StatusCode, Uri};
+use life_classify::classify::DriveClassifier;
 use life_core::{Got, List, NoMemory, Octets, PanicText, Text, Twin};
 use std::alloc::Global;
 use std::marker::Model;
@@ -23,12 +24,17 @@ pub struct Limits {
     pub gate_name: HeaderName,
     /// What its first value must be.
     pub gate_value: Text,
+    /// Which answers are traced as failures.
+    pub classifier: DriveClassifier,
+    /// Whether the span of a request shows its headers.
+    pub span_headers: bool,
 }
 
 impl Twin for Limits {
     fn twin(&self, alloc: Global) -> Got<Limits> {
         let gate_name = self.gate_name.twin(alloc)?;
         let gate_value = self.gate_value.twin(alloc)?;
+        let classifier = self.classifier.twin(alloc)?;
         Ok(Limits {
             timeout: self.timeout,
             timeout_status: self.timeout_status,
@@ -36,6 +42,8 @@ impl Twin for Limits {
             byte_limit: self.byte_limit,
             gate_name,
             gate_value,
+            classifier,
+            span_headers: self.span_headers,
         })
     }
 }
@@ -178,6 +186,10 @@ impl Twin for CallItem {
 /// The script of one request.
 #[derive(Debug, Drop)]
 pub struct Script {
+    /// The method of the request.
+    pub method: Method,
+    /// The target of the request.
+    pub uri: Uri,
     /// The headers of the request.
     pub headers: HeaderList,
     /// What the body of the request gives, to be shared.
@@ -194,6 +206,8 @@ impl Model for Script {
     ghost Value = { ScriptView };
 
     ghost view = { λ script. record {
+      method = script.method;
+      uri = script.uri;
       headers = script.headers;
       body = script.body.value.items;
       call = script.call;
@@ -203,11 +217,15 @@ impl Model for Script {
 
 impl Twin for Script {
     fn twin(&self, alloc: Global) -> Got<Script> {
+        let method = self.method.twin(alloc)?;
+        let uri = self.uri.twin(alloc)?;
         let headers = self.headers.twin(alloc)?;
         let body = self.body.clone()?;
         let call = self.call.twin(alloc)?;
         let polls = self.polls.clone()?;
         Ok(Script {
+            method,
+            uri,
             headers,
             body,
             call,

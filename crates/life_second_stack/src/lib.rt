@@ -1,4 +1,4 @@
-//! A stack of one's own, driven by the same session as the eight layers: deadlines of bodies round the detection
+//! A stack of one's own, driven by the same session as the driven layers: deadlines of bodies round the detection
 //! of early drops, which there stand the other way round.
 #![tactic(auto)]
 

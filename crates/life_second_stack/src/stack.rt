@@ -1,6 +1,6 @@
 //! Deadlines of bodies round the detection of early drops, over the scripted service with its panics caught. Past
 //! its deadline a body is polled no more, so the inner layer sees no end of it: abandoned then, it counts as
-//! dropped early, which under the eight layers it does not.
+//! dropped early, which under the driven layers it does not.
 use bytes::Bytes;
 use http_body::Frame;
 use life_core::{

@@ -4,7 +4,7 @@ use Rattle.std.proofs.lemmas.Bool.{eq-eqb, ne_eqb}
 use Rattle.std.proofs.lemmas.Bool.Decides.{eqb_tells}
 use Rattle.std.proofs.lemmas.List.{length-take-le}
 use Rattle.std.proofs.lemmas.List.Sums.{count_by-le-length, sum_by-cons}
-use Rattle.std.proofs.lemmas.Option.{slice_get-get_or, slice_get_within}
+use Rattle.std.proofs.lemmas.Option.{slice_get_within}
 use Rattle.std.proofs.lemmas.Grind.{get_or_default_zero}
 use Rattle.std.proofs.Math.ListN.{set}
 use Rattle.std.specs.List.{All, AllZip}
@@ -13,7 +13,6 @@ use Rattle.life_script.proofs.CheckLemmas.{valid_requests, valid_order}
 use Rattle.life_script.specs.Scenario.{ScriptView, ScenarioView}
 use Rattle.life_script.specs.Told.{ToldView}
 use Rattle.life_script.specs.Valid.{IsValid}
-use Rattle.life_script.specs.declared.scenario.CallItem.TheVariants.{Serve}
 use Rattle.life_script.specs.declared.scenario.Step.{Step}
 use Rattle.life_session.specs.Acts.{Counts, NotBefore, own, steps_of}
 use Rattle.life_session.specs.Exchange.{ExchangeAt, HasRoom, IsFresh, LiveAt}
@@ -62,8 +61,11 @@ left_other (y ∷ xs) (suc k) r x is q = left_other xs k r x is q
 
 -- What holds of a session.
 
-no_script : ScriptView
-no_script = record { headers = []; body = []; call = Serve; polls = [] }
+-- what stands at an index
+there_at : {A : Type 0} (xs : List A) (i : ℕ) → i < length xs → (x : A) × (slice_get xs i ≡ Some x)
+there_at [] i l = absurd (omega (arith, l))
+there_at (x ∷ xs) zero l = (x, refl)
+there_at (x ∷ xs) (suc i) l = there_at xs i (omega (arith, l))
 
 module _ {K N S R F B : Type 0} (m : Meaning K N S R F B) where
   -- where an exchange stands
@@ -72,8 +74,8 @@ module _ {K N S R F B : Type 0} (m : Meaning K N S R F B) where
   session_at v s i e is =
       let within = slice_get_within v.exchanges i e is in
       let count = s.count in
-      let there = slice_get-get_or v.scenario.requests i no_script (omega arith) in
-      (get_or v.scenario.requests i no_script, there, s.each i (get_or v.scenario.requests i no_script) e there is)
+      let there = there_at v.scenario.requests i (omega arith) in
+      (there.0, there.1, s.each i there.0 e there.1 is)
 
   pub session_may : (v : SessionView N S F B) → IsSession m v → (k : ℕ) (d : Exchange F B) → k < length v.exchanges → May m (get_or v.exchanges k d)
   session_may v s k d l = s.may_each k d l

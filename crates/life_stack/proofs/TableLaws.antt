@@ -4,3 +4,5 @@ pub mod Bounds
 pub mod Drops
 pub mod Failing
 pub mod FirstAnswers
+pub mod Quiet
+pub mod Traces

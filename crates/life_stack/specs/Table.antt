@@ -3,3 +3,4 @@ pub mod Examples
 pub mod Handed
 pub mod Request
 pub mod Story
+pub mod Traced

@@ -13,7 +13,7 @@ pub use service::body::ScriptBody;
 pub use service::ext::Ext;
 pub use service::future::ScriptFuture;
 pub use stack::driving::drive;
-pub use stack::keeping::{EightLayers, Session};
+pub use stack::keeping::{DrivenLayers, Session};
 pub use stack::{
     DriveBody, DriveFuture, DriveStack, abandon_body, abandon_future, call_stack, drive_stack,
     poll_body, poll_future, request_of, script_request,

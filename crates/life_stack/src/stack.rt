@@ -6,10 +6,11 @@ ghost use Rattle.life_core.specs.Poll.{OnPending};
 ghost use Rattle.life_script.specs.Scenario.{ScriptView};
 ghost use Rattle.life_stack.specs.Stack.Driven.{BodyMay, FutureLive, FutureMay, StackMay, StackStands};
 ghost use Rattle.life_session.specs.Acts.{Own};
+ghost use Rattle.life_stack.specs.Stack.Tracing.{drive_tracing};
 ghost use Rattle.life_session.specs.Table.{AbandonKeepsTable, BodyAbandonKeepsTable, CallKeepsTable, FrameKeepsTable, IfResponse, KeepsServing, PollKeepsTable, ServesEach};
 ghost use Rattle.life_stack.specs.Stack.Course.{Key};
 ghost use Rattle.life_stack.specs.Stack.Keeping.{drive_meaning, drive_places};
-ghost use Rattle.life_stack.specs.Service.Script.{IsRequestOf};
+ghost use Rattle.life_stack.specs.Service.Script.{IsRequestBody, IsRequestOf};
 ghost use Rattle.life_stack.specs.Table.Request.{numbered};
 ghost use Rattle.life_script.specs.Valid.{EachFits, IsValid, ScriptFits};
 
@@ -22,9 +23,10 @@ use crate::service::ext::Ext;
 use bytes::Bytes;
 use http::HeaderName;
 use http_body::Frame;
+use life_classify::classify::{DriveClassifier, DriveClassifyEos, SharedClassifier};
 use life_core::{
-    Body, BodyError, Cx, Full, Future, Got, Poll, Recorder, Request, Response, Service, Spend,
-    Text, Twin, UnsyncBoxBody,
+    Body, BodyError, Cx, Full, Future, Got, LatencyUnit, Layer, Poll, Recorder, Request, Response,
+    Service, Spend, Text, Twin, UnsyncBoxBody,
 };
 use life_drop::on_early_drop::{NoteDrop, NoteDropped, OnEarlyDropBody, OnEarlyDropService};
 use life_gate::validate_request::{RequiredHeaderValue, ValidateRequestHeader};
@@ -34,13 +36,29 @@ use life_limit::limit::{RequestBodyLimit, ResponseBody};
 use life_script::{Limits, Scenario, Script, Scripts};
 use life_session::share;
 use life_time::timeout::{DeadlineBody, ResponseBodyDeadline, Timeout};
+use life_trace::trace::{
+    DefaultMakeSpan, DefaultOnEos, DefaultOnFailure, DefaultOnRequest, DefaultOnResponse,
+    NoteChunk, ResponseBody as TracedBody, Trace, TraceLayer,
+};
 use std::alloc::Global;
 use std::convert::Infallible;
 use std::marker::PhantomData;
 use std::rc::Rc;
 
 /// The layers over the scripted service, from the outside in.
-pub type DriveStack = SetRequestId<Watched, ByNumber>;
+pub type DriveStack = SetRequestId<Traced, ByNumber>;
+
+/// The layers that look at the response, traced.
+type Traced = Trace<
+    Watched,
+    SharedClassifier<DriveClassifier>,
+    DefaultMakeSpan,
+    DefaultOnRequest,
+    DefaultOnResponse,
+    NoteChunk,
+    DefaultOnEos,
+    DefaultOnFailure,
+>;
 
 /// The layers that look at the response, over the scripted service.
 type Watched = OnEarlyDropService<ResponseBodyDeadline<Timeout<Named>>, NoteDrop, NoteDrop>;
@@ -58,10 +76,43 @@ type Gated = ValidateRequestHeader<
 pub type DriveFuture<L> = <DriveStack as Service<Request<ScriptBody, Ext>, L>>::Future;
 
 /// The body of a driven response.
-pub type DriveBody = OnEarlyDropBody<
-    DeadlineBody<ResponseBody<UnsyncBoxBody<ScriptBody, Full>>>,
-    NoteDropped,
+pub type DriveBody = TracedBody<
+    OnEarlyDropBody<DeadlineBody<ResponseBody<UnsyncBoxBody<ScriptBody, Full>>>, NoteDropped>,
+    DriveClassifyEos,
+    NoteChunk,
+    DefaultOnEos,
+    DefaultOnFailure,
 >;
+
+/// The layer that traces as the limits say: by their classifier, with the headers of requests or without, and
+/// with all lengths of time in nanoseconds.
+fn tracing(
+    alloc: Global,
+    limits: &Limits,
+) -> Got<
+    TraceLayer<
+        SharedClassifier<DriveClassifier>,
+        DefaultMakeSpan,
+        DefaultOnRequest,
+        DefaultOnResponse,
+        NoteChunk,
+        DefaultOnEos,
+        DefaultOnFailure,
+    >,
+>
+    ensures { IfOk result (λ layer. layer ≡ drive_tracing limits.now) }
+{
+    let classifier = limits.classifier.twin(alloc)?;
+    let make_span = DefaultMakeSpan::new().include_headers(limits.span_headers);
+    Ok(
+        TraceLayer::new(SharedClassifier::new(classifier))
+            .make_span_with(make_span)
+            .on_response(DefaultOnResponse::new().latency_unit(LatencyUnit::Nanos))
+            .on_body_chunk(NoteChunk::new())
+            .on_eos(DefaultOnEos::new().latency_unit(LatencyUnit::Nanos))
+            .on_failure(DefaultOnFailure::new().latency_unit(LatencyUnit::Nanos)),
+    )
+}
 
 /// The stack with these limits over a service of these scripts.
 pub(crate) fn stack_over(alloc: Global, limits: &Limits, scripts: Rc<Scripts>) -> Got<DriveStack>
@@ -80,6 +131,7 @@ pub(crate) fn stack_over(alloc: Global, limits: &Limits, scripts: Rc<Scripts>) -
     let service = Timeout::with_status_code(service, limits.timeout_status, limits.timeout);
     let service = ResponseBodyDeadline::new(service, limits.body_deadline);
     let service = OnEarlyDropService::new(service, NoteDrop::new(), NoteDrop::new());
+    let service = tracing(alloc, limits)?.layer(alloc, service)?;
     let name = HeaderName::from_static("x-request-id");
     Ok(SetRequestId::new(service, name, ByNumber))
 }
@@ -96,25 +148,38 @@ pub fn drive_stack(alloc: Global, limits: &Limits, scenario: &Scenario) -> Got<D
     stack_over(alloc, limits, scripts)
 }
 
-/// The request of a script and its number: GET `/` in HTTP/1.1, with the script's headers in order and its
-/// body. No header list of the script holds over 1,000 values.
+/// The body of the request of a script.
+fn body_of(script: &Script) -> Got<ScriptBody>
+    requires { ScriptFits script.now }
+    ensures { IfOk result (IsRequestBody script.now.body) }
+{
+    let items = script.body.clone()?;
+    Ok(ScriptBody::of_request(items))
+}
+
+/// The request of a script and its number: the script's method and target in HTTP/1.1, with its headers in order
+/// and its body. No header list of the script holds over 1,000 values.
 pub fn request_of(alloc: Global, script: &Script, number: u64) -> Got<Request<ScriptBody, Ext>>
     requires { ScriptFits script.now }
     ensures { IfOk result (IsRequestOf script.now number) }
 {
+    let method = script.method.twin(alloc)?;
+    let uri = script.uri.twin(alloc)?;
     let headers = script.headers.to_map(alloc)?;
-    let body = script.body.clone()?;
+    let body = body_of(script)?;
     let ext = Ext {
         number: Some(Number(number)),
         id: None,
     };
-    let mut request = Request::new(alloc, ScriptBody::of_request(body), ext);
+    let mut request = Request::new(alloc, body, ext);
+    request.head.parts.method = method;
+    request.head.parts.uri = uri;
     request.head.parts.headers = headers;
     Ok(request)
 }
 
-/// The request of the script of a number, which a valid scenario has: GET `/` in HTTP/1.1, with the script's
-/// headers in order and its body.
+/// The request of the script of a number, which a valid scenario has: the script's method and target in HTTP/1.1,
+/// with its headers in order and its body.
 pub fn script_request(alloc: Global, scenario: &Scenario, i: u64) -> Got<Request<ScriptBody, Ext>>
     requires valid { IsValid scenario.now }
     requires within { i < length scenario.now.requests }

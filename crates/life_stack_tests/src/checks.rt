@@ -1,5 +1,6 @@
 //! What is first wrong with a scenario.
-use http::{HeaderName, HeaderValue, StatusCode};
+use crate::fixtures::target;
+use http::{HeaderName, HeaderValue, Method, StatusCode};
 use life_core::List;
 use life_script::{
     Act, BodyItem, BodyItems, CallItem, DriveError, HeaderList, PollItem, PollItems, Reply,
@@ -62,6 +63,8 @@ fn put_script(
     polls: PollItems,
 ) {
     let script = Script {
+        method: Method::GET,
+        uri: target(rt, "/"),
         headers: many(rt, counts.0),
         body: Rc::new(rt.alloc(), body(rt, counts.1)).expect(rt, "memory"),
         call: CallItem::Serve,

@@ -1,7 +1,7 @@
 //! Equal values of scripts with each kind of part.
 use crate::asserting::{number_is, text_is};
-use crate::fixtures::{octets, text};
-use http::{HeaderName, HeaderValue, StatusCode};
+use crate::fixtures::{octets, target, text};
+use http::{HeaderName, HeaderValue, Method, StatusCode};
 use life_core::{List, PanicText, Twin};
 use life_script::{
     BodyItem, BodyItems, CallItem, HeaderList, PollItem, PollItems, Reply, Script, Then,
@@ -66,6 +66,8 @@ fn polls(rt: &(impl Abort + AllocGlobal)) -> PollItems {
 /// A script whose call panics, with each kind of part.
 fn script(rt: &(impl Abort + AllocGlobal)) -> Script {
     Script {
+        method: Method::PUT,
+        uri: target(rt, "/a?b"),
         headers: headers(rt),
         body: Rc::new(rt.alloc(), body(rt)).expect(rt, "memory"),
         call: CallItem::Panic(PanicText::Known(text(rt, "oh"))),
@@ -89,6 +91,8 @@ fn asks_are(rt: &impl Abort, polls: &PollItems, number: u64, want: u64) {
 
 /// Asserts that a script has each kind of part.
 fn has_each_part(rt: &impl Abort, script: &Script) {
+    text_is(rt, script.method.as_str().as_bytes(), "PUT");
+    text_is(rt, script.uri.path().as_bytes(), "/a");
     number_is(rt, script.headers.len(), 1);
     number_is(rt, script.body.len(), 4);
     call_says(rt, &script.call, "oh");

@@ -1,4 +1,5 @@
 //! What several files make: texts, bytes, and scenarios with their limits.
+use http::Uri;
 use life_core::{Octets, Text};
 use life_script::{Limits, Scenario, read_scenario};
 use std::alloc::AllocGlobal;
@@ -12,6 +13,11 @@ pub fn text(rt: &(impl Abort + AllocGlobal), text: &str) -> Text {
 /// A copy of some bytes.
 pub fn octets(rt: &(impl Abort + AllocGlobal), bytes: &[u8]) -> Octets {
     Octets::copy(rt.alloc(), bytes).expect(rt, "memory")
+}
+
+/// The target that a text is.
+pub fn target(rt: &(impl Abort + AllocGlobal), text: &str) -> Uri {
+    Uri::from_str(rt.alloc(), text).expect(rt, "a target")
 }
 
 /// The limits and the scenario that a text is.

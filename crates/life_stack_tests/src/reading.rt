@@ -1,6 +1,7 @@
-//! Texts that are read, that are bad, and that ask for what is not there yet.
+//! Texts that are read, and texts that are bad.
 use crate::asserting::{number_is, text_is};
 use crate::fixtures::read;
+use life_classify::classify::DriveClassifier;
 use life_core::PanicText;
 use life_script::{
     Act, BodyItem, BodyItems, CallItem, HeaderList, Limits, PollItem, ReadError, Scenario, Script,
@@ -11,7 +12,16 @@ use std::process::Abort;
 
 /// A scenario with a part of most kinds.
 const GOOD: &str =
-    r#"{"version":1,"limits":{"timeout":10,"timeout_status":408,"body_deadline":20,"byte_limit":64,"gate_name":"X-Gate","gate_value":"open"},"requests":[{"headers":[["X-Id","7"]],"body":[{"data":"in"}],"call":"serve","polls":[{"asks":2,"then":{"respond":{"status":200,"headers":[["a","b"]],"body":[{"data":"hi"}],"tells":true}}}]}],"steps":[[0,0,"call"],[3,0,"poll"],[4,0,"poll"],[5,0,"drop"]],"end":5}"#;
+    r#"{"version":1,"limits":{"timeout":10,"timeout_status":408,"body_deadline":20,"byte_limit":64,"gate_name":"X-Gate","gate_value":"open","classifier":"grpc","span_headers":true},"requests":[{"method":"POST","uri":"/in?q","headers":[["X-Id","7"]],"body":[{"data":"in"}],"call":"serve","polls":[{"asks":2,"then":{"respond":{"status":200,"headers":[["a","b"]],"body":[{"data":"hi"}],"tells":true}}}]}],"steps":[[0,0,"call"],[3,0,"poll"],[4,0,"poll"],[5,0,"drop"]],"end":5}"#;
+
+/// Asserts the name of a classifier.
+fn classifier_is(rt: &impl Abort, classifier: &DriveClassifier, want: &str) {
+    let name = match classifier {
+        DriveClassifier::Http => "http",
+        DriveClassifier::Grpc => "grpc",
+    };
+    text_is(rt, name.as_bytes(), want);
+}
 
 /// Asserts that these are the limits of the good text.
 fn limits_are_good(rt: &impl Abort, limits: &Limits) {
@@ -21,6 +31,8 @@ fn limits_are_good(rt: &impl Abort, limits: &Limits) {
     number_is(rt, limits.byte_limit, 64);
     text_is(rt, limits.gate_name.as_str().as_bytes(), "x-gate");
     text_is(rt, limits.gate_value.as_str().as_bytes(), "open");
+    classifier_is(rt, &limits.classifier, "grpc");
+    assert!(*rt; limits.span_headers);
 }
 
 /// The word of an act.
@@ -83,6 +95,8 @@ fn first<'a>(rt: &impl Abort, scenario: &'a Scenario) -> &'a Script {
 
 /// Asserts that this is the script of the good text. The name of a header is in lower case.
 fn script_is_good(rt: &impl Abort, script: &Script) {
+    text_is(rt, script.method.as_str().as_bytes(), "POST");
+    text_is(rt, script.uri.path().as_bytes(), "/in");
     only_field_is(rt, &script.headers, "x-id", "7");
     begins_with(rt, &script.body, "in");
     let poll = script.polls.get(0).expect(rt, "a poll");
@@ -155,7 +169,6 @@ fn kind_is(rt: &(impl Abort + AllocGlobal), bytes: &[u8], want: &str) {
     let kind = match read_scenario(rt.alloc(), bytes) {
         Ok(_) => "good",
         Err(ReadError::BadScenario) => "bad",
-        Err(ReadError::NotBuilt) => "not built",
         Err(ReadError::NoMemory) => "no memory",
     };
     assert_eq!(rt; kind, want);
@@ -193,7 +206,7 @@ fn reads_changed(rt: &(impl Abort + AllocGlobal), change: &str, want: &str) {
 }
 
 #[test]
-fn tells_bad_from_not_built(rt: HostRuntime) {
+fn tells_good_from_bad(rt: HostRuntime) {
     let rows = r#"
         good: "end":5 => "end":5,"other":[]
         bad: "end":5} => "end":5
@@ -204,18 +217,78 @@ fn tells_bad_from_not_built(rt: HostRuntime) {
         bad: [3,0,"poll"] => [3,0]
         bad: [3,0,"poll"] => [3,0,"poll",0]
         bad: "tells":true => "tells":1
-        not built: "polls" => "uri":1,"polls"
-        bad: "polls":[ => "uri":1,"polls":[1,
-        not built: "polls" => "method":1,"polls"
+        bad: "polls":[ => "uri":1,"polls":[
         good: "requests":[ => "requests":[],"others":[
-        not built: "timeout" => "classifier":1,"timeout"
-        not built: "timeout" => "span_headers":1,"timeout"
     "#;
     for row in rows.trim().lines() {
         let (kind, change) = halves(row);
         reads_changed(&rt, change, kind);
     }
     kind_is(&rt, b"\xff", "bad");
+}
+
+#[test]
+fn reads_classifiers(rt: HostRuntime) {
+    let rows = r#"
+        bad:
+        good: ,"classifier":"http"
+        good: ,"classifier":"grpc"
+        bad: ,"classifier":"HTTP"
+        bad: ,"classifier":""
+        bad: ,"classifier":1
+        bad: ,"classifier":null
+    "#;
+    all_read(&rt, r#","classifier":"grpc""#, rows);
+}
+
+#[test]
+fn reads_whether_a_span_shows_headers(rt: HostRuntime) {
+    let rows = r#"
+        bad:
+        good: ,"span_headers":true
+        good: ,"span_headers":false
+        bad: ,"span_headers":"true"
+        bad: ,"span_headers":1
+        bad: ,"span_headers":null
+    "#;
+    all_read(&rt, r#","span_headers":true"#, rows);
+}
+
+#[test]
+fn reads_methods(rt: HostRuntime) {
+    let rows = r#"
+        bad:
+        good: "method":"get",
+        good: "method":"PROPFIND",
+        good: "method":"x-own!",
+        bad: "method":"",
+        bad: "method":"G T",
+        bad: "method":"GET\n",
+        bad: "method":"G\u00c9T",
+        bad: "method":7,
+        bad: "method":null,
+    "#;
+    all_read(&rt, r#""method":"POST","#, rows);
+}
+
+#[test]
+fn reads_targets(rt: HostRuntime) {
+    let rows = r#"
+        bad:
+        good: "uri":"/",
+        good: "uri":"/a?b=c#d",
+        good: "uri":"http://a.example:80/b?c",
+        good: "uri":"*",
+        good: "uri":"a.example:80",
+        bad: "uri":"",
+        bad: "uri":" ",
+        bad: "uri":"/a b",
+        bad: "uri":"http://",
+        bad: "uri":"a.example/b",
+        bad: "uri":7,
+        bad: "uri":null,
+    "#;
+    all_read(&rt, r#""uri":"/in?q","#, rows);
 }
 
 #[test]
@@ -229,7 +302,6 @@ fn reads_gates(rt: HostRuntime) {
         bad: ,"gate_name":"a","gate_value":1
         bad: ,"gate_value":"open"
         bad: ,"gate_name":"a"
-        bad: ,"gate_name":"a","classifier":1
     "#;
     all_read(&rt, r#","gate_name":"X-Gate","gate_value":"open""#, rows);
 }
@@ -327,13 +399,13 @@ fn reads_calls(rt: HostRuntime) {
 #[test]
 fn reads_scripts(rt: HostRuntime) {
     let rows = r#"
-        good: "requests":[{"headers":[],"body":[],"call":"serve","polls":[]},
-        bad: "requests":[{"headers":[],"body":{},"call":"serve","polls":[]},
-        bad: "requests":[{"headers":[],"body":[],"call":"serve","polls":1},
-        bad: "requests":[{"headers":[],"body":[],"call":"serve"},
-        bad: "requests":[{"headers":[],"body":[],"polls":[]},
-        bad: "requests":[{"headers":[],"call":"serve","polls":[]},
-        bad: "requests":[{"body":[],"call":"serve","polls":[]},
+        good: "requests":[{"method":"GET","uri":"/","headers":[],"body":[],"call":"serve","polls":[]},
+        bad: "requests":[{"method":"GET","uri":"/","headers":[],"body":{},"call":"serve","polls":[]},
+        bad: "requests":[{"method":"GET","uri":"/","headers":[],"body":[],"call":"serve","polls":1},
+        bad: "requests":[{"method":"GET","uri":"/","headers":[],"body":[],"call":"serve"},
+        bad: "requests":[{"method":"GET","uri":"/","headers":[],"body":[],"polls":[]},
+        bad: "requests":[{"method":"GET","uri":"/","headers":[],"call":"serve","polls":[]},
+        bad: "requests":[{"method":"GET","uri":"/","body":[],"call":"serve","polls":[]},
     "#;
     all_read(&rt, r#""requests":["#, rows);
 }

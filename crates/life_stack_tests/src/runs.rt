@@ -9,7 +9,19 @@ use std::process::Abort;
 
 /// A request that is answered with status 200 and a body of one piece, which is read to its end.
 const HI: &str =
-    r#"{"version":1,"limits":{"timeout":10,"timeout_status":408,"body_deadline":20,"byte_limit":5,"gate_name":"x-gate","gate_value":"open"},"requests":[{"headers":[["x-gate","open"]],"body":[],"call":"serve","polls":[{"asks":0,"then":{"respond":{"status":200,"headers":[],"body":[{"data":"hi"}],"tells":true}}}]}],"steps":[[0,0,"call"],[3,0,"poll"],[4,0,"poll"],[5,0,"drop"]],"end":5}"#;
+    r#"{"version":1,"limits":{"timeout":10,"timeout_status":408,"body_deadline":20,"byte_limit":5,"gate_name":"x-gate","gate_value":"open","classifier":"http","span_headers":false},"requests":[{"method":"GET","uri":"/","headers":[["x-gate","open"]],"body":[],"call":"serve","polls":[{"asks":0,"then":{"respond":{"status":200,"headers":[],"body":[{"data":"hi"}],"tells":true}}}]}],"steps":[[0,0,"call"],[3,0,"poll"],[4,0,"poll"],[5,0,"drop"]],"end":5}"#;
+
+/// What is told of it.
+const TOLD: &str = "step 0 at 0 request 0 call: called
+  started DEBUG request{method=GET uri=/ version=HTTP/1.1}
+step 1 at 3 request 0 poll: response 200 open {x-request-id: [\"0\"]}
+  finished DEBUG latency 3 ns status 200
+step 2 at 4 request 0 poll: data \"hi\" ended
+  chunk 2 latency 4 ns
+  eos DEBUG duration 1 ns status none
+step 3 at 5 request 0 drop: dropped
+total: 1 requests, 4 steps, end 5
+";
 
 /// How a source gives bytes and a sink takes them: so many a call, and the calls of these numbers fail.
 #[derive(Clone, Copy)]
@@ -156,13 +168,20 @@ fn drives_without_a_source(rt: HostRuntime) {
     number_is(&rt, report.steps().len(), 4);
     number_is(&rt, report.requests(), 1);
     let wants = [
-        "called",
-        "response 200 open {x-request-id: [\"0\"]}",
-        "data \"hi\" ended",
-        "dropped",
+        (
+            "called",
+            "started DEBUG request{method=GET uri=/ version=HTTP/1.1}",
+        ),
+        (
+            "response 200 open {x-request-id: [\"0\"]}",
+            "finished DEBUG latency 3 ns status 200",
+        ),
+        (
+            "data \"hi\" ended",
+            "chunk 2 latency 4 ns\neos DEBUG duration 1 ns status none",
+        ),
+        ("dropped", ""),
     ];
     request_is(&rt, &report, 0, &wants);
-    let text =
-        "step 0 at 0 request 0 call: called\nstep 1 at 3 request 0 poll: response 200 open {x-request-id: [\"0\"]}\nstep 2 at 4 request 0 poll: data \"hi\" ended\nstep 3 at 5 request 0 drop: dropped\ntotal: 1 requests, 4 steps, end 5\n";
-    report_shows(&rt, &report, text);
+    report_shows(&rt, &report, TOLD);
 }

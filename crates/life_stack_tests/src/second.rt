@@ -9,7 +9,7 @@ use std::process::Abort;
 
 /// One request, whose body is polled past a deadline of 10 nanoseconds and then dropped.
 const LATE: &str =
-    r#"{"version":1,"limits":{"timeout":1000,"timeout_status":408,"body_deadline":10,"byte_limit":65536,"gate_name":"x-gate","gate_value":"open"},"requests":[{"headers":[],"body":[],"call":"serve","polls":[{"asks":0,"then":{"respond":{"status":200,"headers":[],"body":[{"data":"first"},{"data":"rest"}],"tells":false}}}]}],"steps":[[0,0,"call"],[50,0,"poll"],[59,0,"poll"],[60,0,"poll"],[70,0,"drop"]],"end":70}"#;
+    r#"{"version":1,"limits":{"timeout":1000,"timeout_status":408,"body_deadline":10,"byte_limit":65536,"gate_name":"x-gate","gate_value":"open","classifier":"http","span_headers":false},"requests":[{"method":"GET","uri":"/","headers":[],"body":[],"call":"serve","polls":[{"asks":0,"then":{"respond":{"status":200,"headers":[],"body":[{"data":"first"},{"data":"rest"}],"tells":false}}}]}],"steps":[[0,0,"call"],[50,0,"poll"],[59,0,"poll"],[60,0,"poll"],[70,0,"drop"]],"end":70}"#;
 
 /// The layer that notices early drops saw no end of the body.
 const TOLD: &str = "step 0 at 0 request 0 call: called

@@ -1,8 +1,8 @@
 //! The stack by hand: one request, call by call.
 ghost use Rattle.life_stack.specs.Stack.Driven.{BodyMay, StackMay};
 
-use crate::asserting::number_is;
 use crate::fixtures::read;
+use crate::reports::events_are;
 use life_core::{Cx, Log, Poll, Request, Response, Twin};
 use life_script::{Limits, Scenario, check};
 use life_stack::{
@@ -14,7 +14,12 @@ use std::process::Abort;
 
 /// A request that is answered with status 200 and no body, which does not tell its end.
 const READY: &str =
-    r#"{"version":1,"limits":{"timeout":10,"timeout_status":408,"body_deadline":20,"byte_limit":5,"gate_name":"x-gate","gate_value":"open"},"requests":[{"headers":[["x-gate","open"]],"body":[],"call":"serve","polls":[{"asks":0,"then":{"respond":{"status":200,"headers":[],"body":[],"tells":false}}}]}],"steps":[],"end":0}"#;
+    r#"{"version":1,"limits":{"timeout":10,"timeout_status":408,"body_deadline":20,"byte_limit":5,"gate_name":"x-gate","gate_value":"open","classifier":"http","span_headers":false},"requests":[{"method":"GET","uri":"/","headers":[["x-gate","open"]],"body":[],"call":"serve","polls":[{"asks":0,"then":{"respond":{"status":200,"headers":[],"body":[],"tells":false}}}]}],"steps":[],"end":0}"#;
+
+/// What is recorded of it, where all is done at once.
+const TOLD: &str = "started DEBUG request{method=GET uri=/ version=HTTP/1.1}
+finished DEBUG latency 0 ns status 200
+eos DEBUG duration 0 ns status none";
 
 /// The stack of a scenario.
 fn stack_of(rt: &(impl Abort + AllocGlobal), limits: &Limits, scenario: &Scenario) -> DriveStack
@@ -92,7 +97,7 @@ fn call_by_call(rt: HostRuntime) {
     let (limits, scenario) = read(&rt, READY);
     let mut log = Log::new(rt.alloc());
     is_ready(&rt, &limits, &scenario, &mut log);
-    number_is(&rt, log.take().len(), 0);
+    events_are(&rt, log.take().as_slice(), TOLD);
 }
 
 #[test]

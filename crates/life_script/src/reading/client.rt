@@ -4,7 +4,7 @@ ghost use Rattle.serde_json.specs.View.{view};
 ghost use Rattle.life_script.specs.Reading.{act_of, step_of, step_part};
 
 use crate::error::ReadError;
-use crate::reading::part::{Built, Part};
+use crate::reading::part::Part;
 use crate::scenario::{Act, Step};
 use serde_json::Value;
 use std::alloc::Global;
@@ -37,10 +37,7 @@ fn step_of(value: &Value) -> Option<Step>
 impl Part for Step {
     ghost reads = { step_part };
 
-    fn read(_alloc: Global, value: &Value) -> Built<Step> {
-        match step_of(value) {
-            Some(step) => Ok(Some(step)),
-            None => Err(ReadError::BadScenario),
-        }
+    fn read(_alloc: Global, value: &Value) -> Result<Step, ReadError> {
+        step_of(value).ok_or(ReadError::BadScenario)
     }
 }

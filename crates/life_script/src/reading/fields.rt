@@ -1,7 +1,7 @@
 //! What stands at the keys of an object.
 ghost use Rattle.std.specs.Prelude.{◌≡◌, codes, map, option_map};
 ghost use Rattle.serde_json.specs.View.{view};
-ghost use Rattle.life_script.specs.Reading.{has_key, number_at, string_at, status_at, asks_at, is_null_at, items_in, items_at, is_string};
+ghost use Rattle.life_script.specs.Reading.{has_key, number_at, string_at, bool_at, status_at, asks_at, is_null_at, items_in, items_at, is_string};
 
 use http::StatusCode;
 use serde_json::Value;
@@ -28,6 +28,13 @@ pub fn string_at<'v>(value: &'v Value, key: &str) -> Option<&'v str>
     ensures { option_map (λ text. text.now) result ≡ string_at key.now (view value.now) }
 {
     value.get(key)?.as_str()
+}
+
+/// True or false, at a key.
+pub fn bool_at(value: &Value, key: &str) -> Option<bool>
+    ensures { result ≡ bool_at key.now (view value.now) }
+{
+    value.get(key)?.as_bool()
 }
 
 /// The status at a key.

@@ -1,61 +1,58 @@
 //! What is read of the layers: their limits.
-ghost use Rattle.std.specs.Prelude.{◌≡◌, ℕ, IfOk, IfErr, List, Option};
+ghost use Rattle.std.specs.Prelude.{◌≡◌, ℕ, IfOk, List, Some, None};
 ghost use Rattle.serde_json.specs.View.{view};
-ghost use Rattle.life_script.specs.Reading.{Bad, if_built, gate_of, has_unbuilt_limit, limits_part, limits_with};
+ghost use Rattle.life_script.specs.Reading.{as_classifier, classifier_at, gate_of, limits_of, limits_with};
 
 use crate::error::ReadError;
-use crate::reading::fields::{has, number_at, status_at, string_at};
+use crate::reading::fields::{bool_at, number_at, status_at, string_at};
 use crate::reading::header::read_name;
-use crate::reading::part::Built;
 use crate::scenario::Limits;
 use http::HeaderName;
+use life_classify::classify::DriveClassifier;
 use life_core::Text;
 use serde_json::Value;
 use std::alloc::Global;
 
 /// Reads the limits.
-pub fn read_limits(alloc: Global, limits: &Value) -> Built<Limits>
-    ensures ok { IfOk result (λ found. limits_part (view limits.now) ≡ if_built found) }
-    ensures bad { result ≡ Err ReadError.BadScenario → limits_part (view limits.now) ≡ Bad }
-    ensures never { ¬ (result ≡ Err ReadError.NotBuilt) }
+pub fn read_limits(alloc: Global, limits: &Value) -> Result<Limits, ReadError>
+    ensures ok { IfOk result (λ found. limits_of (view limits.now) ≡ Some found) }
+    ensures bad { result ≡ Err ReadError.BadScenario → limits_of (view limits.now) ≡ None }
 {
-    let Some(gate) = read_gate(alloc, limits)? else {
-        return Err(ReadError::BadScenario);
-    };
-    match limits_with(limits, gate) {
-        Some(found) => Ok(if has_unbuilt_limit(limits) {
-            None
-        } else {
-            Some(found)
-        }),
-        None => Err(ReadError::BadScenario),
-    }
+    let gate = read_gate(alloc, limits)?;
+    limits_with(limits, gate).ok_or(ReadError::BadScenario)
 }
 
-/// Whether limits have a key that is not built yet.
-fn has_unbuilt_limit(limits: &Value) -> bool
-    ensures { result ≡ has_unbuilt_limit (view limits.now) }
-{
-    has(limits, "classifier") || has(limits, "span_headers")
-}
-
-/// The header that lets a request through and what its first value must be, or none where one of them is
-/// missing or is no name.
-fn read_gate(alloc: Global, limits: &Value) -> Result<Option<(HeaderName, Text)>, ReadError>
-    ensures ok { IfOk result (λ (gate : Option (List ℕ × List ℕ)).
-        gate ≡ gate_of (view limits.now)) }
-    ensures err { IfErr result (λ error. error ≡ ReadError.NoMemory) }
+/// Reads the header that lets a request through and what its first value must be.
+fn read_gate(alloc: Global, limits: &Value) -> Result<(HeaderName, Text), ReadError>
+    ensures ok { IfOk result (λ (gate : List ℕ × List ℕ). gate_of (view limits.now) ≡ Some gate) }
+    ensures bad { result ≡ Err ReadError.BadScenario → gate_of (view limits.now) ≡ None }
 {
     let (Some(name), Some(value)) = (
         string_at(limits, "gate_name"),
         string_at(limits, "gate_value"),
     ) else {
-        return Ok(None);
+        return Err(ReadError::BadScenario);
     };
-    let Some(name) = read_name(alloc, name)? else {
-        return Ok(None);
-    };
-    Ok(Some((name, Text::copy(alloc, value)?)))
+    let name = read_name(alloc, name)?;
+    Ok((name, Text::copy(alloc, value)?))
+}
+
+/// The classifier of this name.
+fn as_classifier(text: &str) -> Option<DriveClassifier>
+    ensures { result ≡ as_classifier text.now }
+{
+    match text {
+        "http" => Some(DriveClassifier::Http),
+        "grpc" => Some(DriveClassifier::Grpc),
+        _ => None,
+    }
+}
+
+/// The classifier at a key.
+fn classifier_at(value: &Value, key: &str) -> Option<DriveClassifier>
+    ensures { result ≡ classifier_at key.now (view value.now) }
+{
+    as_classifier(string_at(value, key)?)
 }
 
 /// How the layers are set, where the gate is set so.
@@ -66,6 +63,8 @@ fn limits_with(value: &Value, gate: (HeaderName, Text)) -> Option<Limits>
     let timeout_status = status_at(value, "timeout_status")?;
     let body_deadline = number_at(value, "body_deadline")?;
     let byte_limit = number_at(value, "byte_limit")?;
+    let classifier = classifier_at(value, "classifier")?;
+    let span_headers = bool_at(value, "span_headers")?;
     let (gate_name, gate_value) = gate;
     Some(Limits {
         timeout,
@@ -74,5 +73,7 @@ fn limits_with(value: &Value, gate: (HeaderName, Text)) -> Option<Limits>
         byte_limit,
         gate_name,
         gate_value,
+        classifier,
+        span_headers,
     })
 }

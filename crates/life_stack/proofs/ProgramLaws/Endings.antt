@@ -5,13 +5,13 @@ use Rattle.life_core.specs.Faults.{Rose}
 use Rattle.life_script.specs.Scenario.{ScenarioView}
 use Rattle.life_script.specs.declared.error.DriveError.{DriveError}
 use Rattle.life_script.specs.declared.scenario.Limits.{Limits}
-use Rattle.life_script.proofs.ReadingLemmas.{reads_not_bad, reads_built, reads_one}
-use Rattle.life_script.specs.Reading.{IsNotBuilt, Reads}
+use Rattle.life_script.proofs.ReadingLemmas.{reads_one}
+use Rattle.life_script.specs.Reading.{IsBadScenario, Reads}
 use Rattle.life_script.specs.Valid.{verdict}
 use Rattle.life_stack.specs.Stack.Drive.{report_of}
 use Rattle.life_session.specs.Report.{report_text}
 use Rattle.life_stack.specs.Program.Output.{IsOutput, IsOutputFor, IsReport, IsRefusal, IsUnread}
-use Rattle.life_stack.specs.Program.Lines.{not_built_line, refused_line}
+use Rattle.life_stack.specs.Program.Lines.{bad_scenario_line, refused_line}
 use Rattle.life_stack.specs.Program.Input.{most_bytes, IsWhole}
 use Rattle.life_stack.specs.Program.Run.{RanOn, EndedWith, IsCutShort, HasScenario, HasOutput}
 use Rattle.life_stack.specs.Program.Writing.{IsAnswered}
@@ -24,10 +24,10 @@ use Rattle.life_stack.specs.declared.program.status.Status.TheVariants.{Done, Us
 pub one_command : (command : Command) → command ≡ Drive
 one_command Drive = refl
 
--- the line on what is not built yet is the output for its bytes
-pub not_built_is_output : (bytes text : List ℕ) (status : Status) → IsNotBuilt bytes → status ≡ BadScenario → text ≡ not_built_line → IsOutputFor bytes status text
-not_built_is_output bytes text status cause is line =
-    let output : IsUnread bytes text = inr (cause, line) in
+-- the line on what is no scenario is the output for its bytes
+pub bad_is_output : (bytes text : List ℕ) (status : Status) → IsBadScenario bytes → status ≡ BadScenario → text ≡ bad_scenario_line → IsOutputFor bytes status text
+bad_is_output bytes text status cause is line =
+    let output : IsUnread bytes text = (cause, line) in
     subst (λ (s : Status). IsOutputFor bytes s text) (sym is) output
 
 -- the output of a scenario that is refused is the line that says why
@@ -137,8 +137,7 @@ kind bytes text SinkFault output = absurd output
 kind bytes text NoMemory output = absurd output
 
 read_and_unread : (bytes text : List ℕ) (limits : Limits) (scenario : ScenarioView) → Reads bytes limits scenario → IsUnread bytes text → ⊥
-read_and_unread bytes text limits scenario reads (inl (bad, line)) = reads_not_bad bytes limits scenario reads bad
-read_and_unread bytes text limits scenario reads (inr (unbuilt, line)) = reads_built bytes limits scenario reads unbuilt
+read_and_unread bytes text limits scenario reads (bad, line) = bad limits scenario reads
 
 valid_and_refused : (bytes text line : List ℕ) → IsReport bytes text → IsRefusal bytes line → ⊥
 valid_and_refused bytes text line report refusal =

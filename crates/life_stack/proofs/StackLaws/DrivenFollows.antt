@@ -1,5 +1,5 @@
 -- The driven stack follows its histories: each layer's lemma over the one below it.
-use Rattle.std.proofs.Common.{◌≡◌, ℕ, List, [], length, Bool, true, false, Some, Ok, refl, ap, subst, arith}
+use Rattle.std.proofs.Common.{◌≡◌, ℕ, List, [], ◌∷◌, length, Bool, true, false, Some, Ok, Err, Result, inl, inr, refl, sym, ap, ◌∙◌, subst, arith}
 use Rattle.life_core.specs.Calls.{NothingToAbandon}
 use Rattle.std.proofs.lemmas.Bool.{le-leb}
 use Rattle.std.specs.Prelude.{codes, ⊤}
@@ -36,7 +36,7 @@ use Rattle.life_time.specs.DeadlineBody.{DeadlineFrames}
 use Rattle.life_time.specs.History.{DeadlineBodyStands, DeadlineStands, TimeoutStands}
 use Rattle.life_time.proofs.DeadlineFollows.{deadline_follows, deadline_body_follows, deadline_serves}
 use Rattle.life_time.proofs.TimeoutFollows.{timeout_follows, timeout_serves}
-use Rattle.life_stack.specs.Stack.Driven.{AsksGate, BodyStands, FutureStands, InnerBody, InnerBodyStands, InnerFuture, InnerServes, InnerStands, StackStands, body_history, drive_body_abandons, drive_calls, drive_ends, drive_frames, drive_abandons, drive_polls, forbidden_head, future_history, gate_validates, inner_body_abandons, inner_calls, inner_ends, inner_frames, inner_abandons, inner_polls, named, service_history, timed_body_history}
+use Rattle.life_stack.specs.Stack.Driven.{AsksGate, BodyStands, DriveFuture, DriveStack, FutureStands, InnerBody, InnerBodyStands, InnerFuture, InnerServes, InnerStands, StackStands, Traced, TracedServes, WatchedBodyStands, WatchedServes, WatchedStands, body_history, drive_body_abandons, drive_calls, drive_ends, drive_frames, drive_abandons, drive_polls, forbidden_head, future_history, gate_validates, inner_body_abandons, inner_calls, inner_ends, inner_frames, inner_abandons, inner_polls, named, notes_failure, service_history, timed_body_history, traced_calls, watched_abandons, watched_body_abandons, watched_body_history, watched_calls, watched_ends, watched_frames, watched_history, watched_polls}
 use Rattle.life_stack.specs.Service.History.{BodyPlan, Head, Heads, IsHead, body_plan, script_body_history}
 use Rattle.life_stack.specs.Service.Caught.{Caught, CaughtStands, caught_abandons, decided_says, caught_history}
 use Rattle.life_stack.specs.Table.Decision.{bare_reply, decided, forbidden_reply, is_shut, is_too_large, too_large_reply, called_by}
@@ -46,8 +46,24 @@ use Rattle.life_stack.specs.Service.Script.{IsDefaultExt, IsRequestOf, ext_id, e
 use Rattle.life_stack.specs.Table.Story.{due_reply}
 use Rattle.life_stack.specs.declared.service.ext.Ext.{Ext}
 use Rattle.life_stack.specs.declared.service.body.ScriptBody.{ScriptBody}
+use Rattle.life_classify.specs.Drive.{DriveEosError, DriveError, DriveResponse, DriveTrailers}
+use Rattle.life_classify.specs.Shared.{MakesTwins}
+use Rattle.life_core.specs.Texts.{body_error_text}
+use Rattle.life_core.specs.Moment.{in_span}
+use Rattle.life_core.specs.declared.recorder.NoMemory.{NoMemory}
+use Rattle.life_head.specs.History.{AsksWith}
+use Rattle.life_trace.specs.DefaultMakeSpan.{MakesRequestSpan}
+use Rattle.life_trace.specs.DefaultOnEos.{RecordsEnd}
+use Rattle.life_trace.specs.DefaultOnRequest.{RecordsStart, default_on_request}
+use Rattle.life_trace.specs.DefaultOnResponse.{RecordsResponse}
+use Rattle.life_trace.specs.NoteChunk.{RecordsChunk}
+use Rattle.life_trace.specs.Parts.{call_hooks}
+use Rattle.life_trace.proofs.TraceFollows.{trace_body_follows, trace_follows, trace_given, trace_refused, trace_serves}
+use Rattle.life_stack.specs.Stack.Tracing.{drive_classes, drive_events, drive_on_eos, drive_on_failure, drive_tracing}
+use Rattle.life_stack.specs.Table.Traced.{span_of, started}
+use Rattle.life_stack.proofs.StackLaws.Tracing.{chunk_hook, classifier_maker, eos_class_told, eos_hook, error_class_told, failure_hook, fault_class_told, request_hook, response_class, response_hook, span_maker}
 use Rattle.life_stack.proofs.ServiceLaws.Handing.{no_item}
-use Rattle.life_stack.proofs.StackLaws.Naming.{AsksInner, head_named, request_named}
+use Rattle.life_stack.proofs.StackLaws.Naming.{AsksInner, AsksTraced, head_named, request_traced}
 use Rattle.life_stack.proofs.ServiceLaws.CaughtFollows.{caught_body, caught_follows, caught_keeps, caught_serves, follows_as, one_text, plain}
 
 -- BODIES.
@@ -144,31 +160,83 @@ inner_keeps limits request = limit_keeps _ NothingToAbandon _ _ quiet
     (gate_keeps _ _ NothingToAbandon caught_abandons _ _ (AsksGate limits) _ Heads CaughtStands forbidden_head (body_plan forbidden_reply) quiet_within (gate_judges limits)
     (caught_keeps request.script request.number)) limits.byte_limit
 
--- THE STACK.
+-- THE LAYERS THAT LOOK AT THE RESPONSE.
 
-pub future_follows : (limits : Limits) (request : Numbered) (t0 : ℕ) →
-    FutureFollows drive_polls drive_abandons IsHead (FutureStands limits request t0) (BodyStands limits t0) (future_history limits request t0)
-future_follows limits request t0 = drop_follows _ _ _ _ _ _ _ _ _ _ _ _ _ _ (note_body IsHead (λ h. h.0) (λ g head h. h.status_is) t0) _ (noting drop_kind.Future t0) _ note_records
+watched_follows : (limits : Limits) (request : Numbered) (t0 : ℕ) →
+    FutureFollows watched_polls watched_abandons IsHead (WatchedStands limits request t0) (WatchedBodyStands limits t0) (watched_history limits request t0)
+watched_follows limits request t0 = drop_follows _ _ _ _ _ _ _ _ _ _ _ _ _ _ (note_body IsHead (λ h. h.0) (λ g head h. h.status_is) t0) _ (noting drop_kind.Future t0) _ note_records
     (deadline_follows _ _ _ _ _ _ limits.body_deadline
     (timeout_follows _ _ _ _ _ (record { start = t0; length = limits.timeout }) limits.timeout_status (limits.timeout_status, []) (bare limits.timeout_status) _ _ _ (body_plan (due_reply limits)) (default limits)
     (propagate_follows _ _ _ ext_id with_id x_request_id_name (Some (ident request)) Heads IsHead (named (ident request)) (head_named (ident request)) _ _ _ (inner_follows limits request))))
     (timed_body limits)
 
-pub body_follows : (limits : Limits) (t0 : ℕ) → BodyFollows drive_frames drive_body_abandons drive_ends (BodyStands limits t0) (body_history limits t0)
-body_follows limits t0 = drop_body_follows _ _ _ _ _ (λ (h : Head). noting (drop_kind.Body h.0) t0) _ _ note_records (timed_body limits)
+watched_body_follows : (limits : Limits) (t0 : ℕ) → BodyFollows watched_frames watched_body_abandons watched_ends (WatchedBodyStands limits t0) (watched_body_history limits t0)
+watched_body_follows limits t0 = drop_body_follows _ _ _ _ _ (λ (h : Head). noting (drop_kind.Body h.0) t0) _ _ note_records (timed_body limits)
 
-pub stack_follows : (limits : Limits) (request : Numbered) →
-    ServiceFollows {R = Request ScriptBody Ext} drive_calls (λ req. IsRequestOf request.script request.number req × ScriptFits request.script) (StackStands limits request) (FutureStands limits request) []
-stack_follows limits request = set_serves _ (NumberMakes ext_number) ext_id with_id NothingToAbandon _ _ _ _ (λ _. ⊤) (λ maker req made new k m. tt) x_request_id_name _ (request_named limits request)
-    (drop_serves _ _ _ _ _ _ _ _ note_future _ _ note_start
+watched_serves : (limits : Limits) (request : Numbered) →
+    ServiceFollows watched_calls (AsksWith x_request_id_name (Some (ident request)) (AsksInner limits request)) (WatchedServes limits request) (WatchedStands limits request) []
+watched_serves limits request = drop_serves _ _ _ _ _ _ _ _ note_future _ _ note_start
     (deadline_serves _ _ _ _ _ (timeout_serves _ _ _ _ _
-    (propagate_serves _ NothingToAbandon _ _ _ _ (inner_serves limits request) x_request_id_name (Some (ident request))) limits.timeout limits.timeout_status) limits.body_deadline))
+    (propagate_serves _ NothingToAbandon _ _ _ _ (inner_serves limits request) x_request_id_name (Some (ident request))) limits.timeout limits.timeout_status) limits.body_deadline)
 
--- whatever is asked, the stack stands for what it stood for
-pub stack_keeps : (limits : Limits) (request : Numbered) → ServiceFollows {R = Request ScriptBody Ext} drive_calls (λ r. ⊤) (StackStands limits request)
+-- whatever is asked, these layers serve on
+watched_keeps : (limits : Limits) (request : Numbered) → ServiceFollows {R = Request ScriptBody Ext} watched_calls (λ r. ⊤) (WatchedServes limits request)
     (λ t0. DropStands (noting drop_kind.Future t0) t0 (DeadlineStands limits.body_deadline
     (TimeoutStands (record { start = t0; length = limits.timeout }) limits.timeout_status (λ (f : PropagateRequestIdResponseFuture InnerFuture) (w : Where). ⊤)))) []
-stack_keeps limits request = set_serves _ (NumberMakes ext_number) ext_id with_id NothingToAbandon (λ r. ⊤) _ _ _ (λ _. ⊤) (λ maker req made new k m. tt) x_request_id_name (λ r. ⊤) (λ maker req maker_new new k q t. tt)
-    (drop_serves _ _ _ _ _ _ _ _ note_future _ _ note_start
+watched_keeps limits request = drop_serves _ _ _ _ _ _ _ _ note_future _ _ note_start
     (deadline_serves _ _ _ _ _ (timeout_serves _ _ _ _ _
-    (propagate_keeps _ NothingToAbandon _ _ _ (inner_keeps limits request) x_request_id_name) limits.timeout limits.timeout_status) limits.body_deadline))
+    (propagate_keeps _ NothingToAbandon _ _ _ (inner_keeps limits request) x_request_id_name) limits.timeout limits.timeout_status) limits.body_deadline)
+
+-- THE STACK.
+
+pub future_follows : (limits : Limits) (request : Numbered) (t0 : ℕ) →
+    FutureFollows drive_polls drive_abandons IsHead (FutureStands limits request t0) (BodyStands limits request t0) (future_history limits request t0)
+future_follows limits request t0 = let span = span_of limits request in
+    trace_follows watched_polls watched_abandons watched_frames watched_body_abandons watched_ends IsHead (WatchedStands limits request t0) (WatchedBodyStands limits t0) (watched_history limits request t0) (watched_body_history limits t0)
+    DriveResponse DriveError Some RecordsResponse notes_failure t0 span (call_hooks (drive_tracing limits) limits.classifier) (λ hook. ⊤) tt drive_events (drive_classes limits.classifier)
+    (response_hook span) (failure_hook span) (response_class limits.classifier) (error_class_told limits.classifier) (watched_follows limits request t0) (watched_body_follows limits t0)
+
+pub body_follows : (limits : Limits) (request : Numbered) (t0 : ℕ) → BodyFollows drive_frames drive_body_abandons drive_ends (BodyStands limits request t0) (body_history limits t0)
+body_follows limits request t0 = let span = span_of limits request in
+    trace_body_follows watched_frames watched_body_abandons watched_ends (WatchedBodyStands limits t0) (watched_body_history limits t0) DriveTrailers DriveEosError (body_error_text Some) RecordsChunk RecordsEnd notes_failure
+    t0 span (λ hook. ⊤) drive_on_eos drive_on_failure drive_events (drive_classes limits.classifier) (chunk_hook span) (eos_hook span) (failure_hook span) eos_class_told fault_class_told (watched_body_follows limits t0)
+
+-- a request that is traced is asked of the layers below
+asked_below : (limits : Limits) (request : Numbered) → ServiceFollows watched_calls (AsksTraced limits request) (WatchedServes limits request) (WatchedStands limits request) []
+asked_below limits request = let below = watched_serves limits request in record {
+  call = λ s req was m f new now q k c. below.call s req was m f new now q.named k c;
+  refused = below.refused;
+}
+
+pub stack_follows : (limits : Limits) (request : Numbered) →
+    ServiceFollows {R = Request ScriptBody Ext} drive_calls (λ req. IsRequestOf request.script request.number req × ScriptFits request.script) (StackStands limits request) (FutureStands limits request) (started (span_of limits request) ∷ [])
+stack_follows limits request = let span_is = λ (req : Request ScriptBody Ext) (q : AsksTraced limits request req). q.span_is in
+    set_serves _ (NumberMakes ext_number) ext_id with_id NothingToAbandon _ _ _ _ (λ _. ⊤) (λ maker req made new k m. tt) x_request_id_name _ (request_traced limits request)
+    (trace_serves watched_calls MakesTwins MakesRequestSpan RecordsStart NothingToAbandon (AsksTraced limits request) (WatchedServes limits request) (WatchedStands limits request) [] (drive_tracing limits)
+    (λ maker. maker ≡ (drive_tracing limits).make_span) (λ hook. hook ≡ default_on_request) (span_of limits request) limits.classifier (started (span_of limits request) ∷ [])
+    (span_maker limits request (AsksTraced limits request) span_is) (classifier_maker limits request (AsksTraced limits request) span_is) (request_hook limits request (AsksTraced limits request) span_is) (asked_below limits request))
+
+-- whatever is asked, the stack stands for what it stood for
+module _ (limits : Limits) (request : Numbered) where
+  trace_kept : (s : Traced) (req : Request ScriptBody Ext) (was : Recorded) (m : Moment) (made : Result DriveFuture NoMemory) (new : Traced) (now : Recorded) →
+      TracedServes limits request s → traced_calls s req was m made new now → TracedServes limits request new
+  trace_kept s req was m (Ok f) new now k c =
+      trace_given watched_calls MakesTwins MakesRequestSpan RecordsStart NothingToAbandon (WatchedServes limits request) (drive_tracing limits) (λ maker. maker ≡ (drive_tracing limits).make_span) (λ hook. hook ≡ default_on_request)
+      (λ old req answer new k e. e.1 ∙ k) (λ old req any was answer new now k e. e.1 ∙ k) s req was m f new now k
+      ((watched_keeps limits request).call s.inner req c.between (in_span m (Some c.begun.span)) f.inner new.inner now tt k.inner c.inner).0 c
+  trace_kept s req was m (Err e) new now k c =
+      trace_refused watched_calls MakesTwins MakesRequestSpan RecordsStart NothingToAbandon (WatchedServes limits request) (drive_tracing limits) (λ maker. maker ≡ (drive_tracing limits).make_span) (λ hook. hook ≡ default_on_request)
+      (λ old req answer new k e. e.1 ∙ k) (λ old req any was answer new now k e. e.1 ∙ k) (watched_keeps limits request).refused s req was m e new now k c
+
+  pub stack_kept : (s : DriveStack) (req : Request ScriptBody Ext) (was : Recorded) (m : Moment) (made : Result DriveFuture NoMemory) (new : DriveStack) (now : Recorded) →
+      StackStands limits request s → drive_calls s req was m made new now → StackStands limits request new
+  stack_kept s req was m made new now k (inl d) = record {
+    name_is = ap (λ (x : DriveStack). x.header_name) d.same ∙ k.name_is;
+    maker = tt;
+    inner = trace_kept s.inner d.tagged was m made new.inner now k.inner d.inner;
+  }
+  stack_kept s req was m made new now k (inr d) = record {
+    name_is = ap (λ (x : DriveStack). x.header_name) d.2.same ∙ k.name_is;
+    maker = tt;
+    inner = subst (TracedServes limits request) (sym (ap (λ (x : DriveStack). x.inner) d.2.same)) k.inner;
+  }

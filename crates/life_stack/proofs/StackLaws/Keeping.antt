@@ -21,7 +21,7 @@ use Rattle.life_session.specs.Moments.{dropped_at}
 use Rattle.life_stack.specs.Table.Story.{answers, at_end, drops, drops_at, unless_dropped}
 use Rattle.life_stack.specs.declared.service.body.ScriptBody.{ScriptBody}
 use Rattle.life_stack.specs.declared.service.ext.Ext.{Ext}
-use Rattle.life_stack.proofs.StackLaws.DrivenFollows.{body_follows, future_follows, stack_follows, stack_keeps}
+use Rattle.life_stack.proofs.StackLaws.DrivenFollows.{body_follows, future_follows, stack_follows, stack_kept}
 use Rattle.life_stack.proofs.TableLaws.Failing.{gone_end}
 use Rattle.life_stack.proofs.StackLaws.Steps.{Turn, awaited_called, awaited_dropped, awaited_drops, awaited_polled, fresh_called, fresh_dropped, fresh_polled, over_idle, streamed_called, streamed_dropped, streamed_drops, streamed_polled}
 
@@ -60,12 +60,7 @@ story_told = record {
 
 -- the script that a stack stands for has lists that are short enough
 fits_of : (k : Key) (s : DriveStack) → StackStands k.0 k.1 s → ScriptFits k.1.script
-fits_of k s serves = (((((((serves.inner).inner).inner).inner).inner).inner).inner).1
-
-kept : (k : Key) (s : DriveStack) (req : Request ScriptBody Ext) (was : Recorded) (m : Moment) (made : Result DriveFuture NoMemory) (new : DriveStack) (now : Recorded) →
-    StackStands k.0 k.1 s → drive_calls s req was m made new now → StackStands k.0 k.1 new
-kept k s req was m (Ok f) new now serves c = ((stack_keeps k.0 k.1).call s req was m f new now tt serves c).0
-kept k s req was m (Err e) new now serves c = (stack_keeps k.0 k.1).refused s req was m e new now serves c
+fits_of k s serves = ((((((((serves.inner).inner).inner).inner).inner).inner).inner).inner).1
 
 future_once : (k : Key) (t0 : ℕ) (w : Where) (t : ℕ) → length (abandoned_at (future_history k.0 k.1 t0).abandoned w t) ≤ 1
 future_once k t0 (Waiting past) t = omega (arith)
@@ -81,12 +76,12 @@ drive_follows = record {
     call = λ s req was m f new now asks serves c. (stack_follows k.0 k.1).call s req was m f new now (asks, fits_of k s serves) serves c;
     refused = (stack_follows k.0 k.1).refused;
   };
-  kept = kept;
+  kept = λ k. stack_kept k.0 k.1;
   future = λ k t0. future_follows k.0 k.1 t0;
-  body = λ k t0. body_follows k.0 t0;
+  body = λ k t0. body_follows k.0 k.1 t0;
   shown = λ said head h. (h.status_is, ap fields h.headers_are);
   future_once = future_once;
-  body_once = λ k t0 plan past t. at_most_one (ended (timed_body_history k.0.body_deadline plan.1) past) _;
+  body_once = λ k t0 plan past t. at_most_one (ended (timed_body_history k.0.body_deadline plan.inner.1) past) _;
 }
 
 pub drive_keeps : KeepsTable drive_calls drive_polls drive_abandons drive_frames drive_body_abandons drive_ends drive_places drive_table

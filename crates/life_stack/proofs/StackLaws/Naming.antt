@@ -1,5 +1,5 @@
 -- What the layers of ids make of a request and of a response's head.
-use Rattle.std.proofs.Common.{true≢false, ◌≡◌, ◌≤◌, ℕ, length, Option, Some, None, Ok, refl, sym, ap, ◌∙◌, subst, decimal}
+use Rattle.std.proofs.Common.{true≢false, ◌≡◌, ◌≤◌, ℕ, List, [], ◌∷◌, length, Option, Some, None, Ok, refl, sym, ap, ◌∙◌, subst, decimal}
 use Rattle.std.specs.Prelude.{bytes_eq, codes, not, slice_get, unwrap_or, ⊤}
 use Rattle.http_header.specs.FieldValue.{FieldValue, plain_value}
 use Rattle.http_header.specs.HeaderMap.{Entries, get}
@@ -23,7 +23,16 @@ use Rattle.life_script.specs.declared.scenario.Limits.{Limits}
 use Rattle.life_script.specs.Valid.{ScriptFits}
 use Rattle.life_script.specs.declared.checks.TheConstants.{MAX_HEADER_VALUES}
 use Rattle.life_script.proofs.HeaderMaps.{get_map, map_has_room, put_missing}
+use Rattle.http.specs.Uri.{uri_text}
+use Rattle.http.specs.declared.request.Parts.{Parts}
+use Rattle.http.specs.declared.version.TheConstants.Version.{HTTP_11}
+use Rattle.http_uri.specs.declared.uri.Uri.{Uri}
+use Rattle.life_trace.specs.DefaultMakeSpan.{request_span}
+use Rattle.life_trace.specs.Headers.{headers_told}
+use Rattle.life_trace.specs.declared.trace.make_span.DefaultMakeSpan.{DefaultMakeSpan}
 use Rattle.life_stack.specs.Stack.Driven.{named}
+use Rattle.life_stack.specs.Stack.Tracing.{drive_tracing}
+use Rattle.life_stack.specs.Table.Traced.{span_of}
 use Rattle.life_stack.specs.Service.History.{Head, Heads, IsHead}
 use Rattle.life_stack.specs.Table.Decision.{is_shut, is_too_large, seen_headers}
 use Rattle.life_stack.specs.Table.Handed.{room}
@@ -135,3 +144,33 @@ request_named limits request maker req maker_new new keeps q t =
           ∙ ap (λ o. first_of o (Some (plain_value (decimal request.number)))) found
           ∙ first_is (first_value x_request_id_name request.script.headers) (plain_value (decimal request.number)),
     )
+
+-- what the trace is asked: such a request, of the script's method and target
+pub record AsksTraced (limits : Limits) (request : Numbered) (req : Request ScriptBody Ext) : Type 0 where
+  pub named : AsksWith x_request_id_name (Some (ident request)) (AsksInner limits request) req
+  pub span_is : request_span (drive_tracing limits).make_span req.head.parts ≡ span_of limits request
+
+-- an id changes neither the method nor the target nor the version
+parts_kept : (x : Option FieldValue) (given : Option RequestId) (req : Request ScriptBody Ext) →
+    (tagged_by ext_id with_id x given x_request_id_name req).head.parts ≡ record req.head.parts { headers = (tagged_by ext_id with_id x given x_request_id_name req).head.parts.headers }
+parts_kept (Some v) given req = refl
+parts_kept None None req = refl
+parts_kept None (Some id) req = refl
+
+-- the span by the parts of a request
+span_by : (maker : DefaultMakeSpan) (parts : Parts) (method : List ℕ) (uri : Uri) (headers : Entries FieldValue) → parts.method ≡ method → parts.uri ≡ uri → parts.version ≡ HTTP_11 →
+    request_span maker (record parts { headers = headers }) ≡ record { level = maker.level; name = codes "request"; fields = (codes "method", method) ∷ (codes "uri", uri_text uri) ∷ (codes "version", codes "HTTP/1.1") ∷ []; headers = headers_told maker.include_headers headers }
+span_by maker parts method uri headers m u v = rw (m, u, v) refl
+
+pub request_traced : (limits : Limits) (request : Numbered) (maker : ByNumber) (req : Request ScriptBody Ext) (maker_new : ByNumber) (new : Request ScriptBody Ext) → ⊤ → IsRequestOf request.script request.number req × ScriptFits request.script →
+    Tags (NumberMakes ext_number) ext_id with_id x_request_id_name maker req (Ok tt) maker_new new → AsksTraced limits request new
+request_traced limits request maker req maker_new new keeps q t =
+    let given : Option RequestId = Some (id_of (plain_value (decimal request.number))) in
+    let new_is : new ≡ tagged ext_id with_id x_request_id_name given req =
+    tagged_is (NumberMakes ext_number) ext_id with_id x_request_id_name maker req maker_new new given (made_number request.number maker maker_new req (q.0).numbered) t in record {
+      named = request_named limits request maker req maker_new new keeps q t;
+      span_is = ap (λ (r : Request ScriptBody Ext). request_span (drive_tracing limits).make_span r.head.parts) new_is
+          ∙ ap (request_span (drive_tracing limits).make_span) (parts_kept (get req.head.parts.headers x_request_id_name) given req
+          ∙ ap (λ (m : Entries FieldValue). record req.head.parts { headers = m }) (headers_tagged request req q.0 q.1))
+          ∙ span_by (drive_tracing limits).make_span req.head.parts request.script.method request.script.uri (map_of (seen_headers request)) ((q.0).head).method ((q.0).head).uri ((q.0).head).version;
+    }

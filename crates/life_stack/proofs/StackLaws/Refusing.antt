@@ -61,7 +61,7 @@ body_quiet (PayloadTooLarge b) was m made now a = a
 
 pub future_refused : (f : DriveFuture) (was : Recorded) (m : Moment) (made : Result Unit NoMemory) (now : Recorded) → drive_abandons f was m made now → IfErr made (λ e. was.spare ≡ 0)
 future_refused f =
-    refused_without_room NotesDrop notes note_records (λ c t. omega arith) (λ f. AbandonsIfAny (λ g. inner_abandons g.inner) f.inner.inner) (λ f. held_quiet f.inner.inner) f.inner f.guard
+    refused_without_room NotesDrop notes note_records (λ c t. omega arith) (λ f. AbandonsIfAny (λ g. inner_abandons g.inner) f.inner.inner) (λ f. held_quiet f.inner.inner) f.inner.inner f.inner.guard
 
 pub body_refused : (b : DriveBody) (was : Recorded) (m : Moment) (made : Result Unit NoMemory) (now : Recorded) → drive_body_abandons b was m made now → IfErr made (λ e. was.spare ≡ 0)
-body_refused b = refused_without_room NotesDrop notes note_records (λ c t. omega arith) (λ b. inner_body_abandons b.body) (λ b. body_quiet b.body) b.inner b.guard
+body_refused b = refused_without_room NotesDrop notes note_records (λ c t. omega arith) (λ b. inner_body_abandons b.body) (λ b. body_quiet b.body) b.inner.inner b.inner.guard

@@ -1,7 +1,7 @@
 -- The story's table answers and records each act by the course of its request.
-use Rattle.std.proofs.Common.{inl, inr, ◌≡◌, ℕ, suc, ◌-◌, ◌<◌, List, [], ◌∷◌, ◌++◌, length, drop, reverse, Bool, true, false, Option, Some, None, refl, sym, ap, ◌∙◌, arith, drop_of_length-le, subst}
+use Rattle.std.proofs.Common.{inl, inr, ◌≡◌, ℕ, suc, ◌-◌, ◌<◌, List, [], ◌∷◌, ◌++◌, length, drop, reverse, Bool, true, false, Option, Some, None, Ok, refl, sym, ap, ◌∙◌, arith, drop_of_length-le, subst}
 use Rattle.std.specs.Prelude.{slice_index, if◌then◌else◌, ◌||◌}
-use Rattle.std.proofs.lemmas.List.{reverse-append, drop-append-le}
+use Rattle.std.proofs.lemmas.List.{length-reverse, reverse-append, drop-append-le}
 use Rattle.life_core.specs.History.{Latest, Said, Waits, Gives, Fails, said_under}
 use Rattle.life_core.specs.declared.event.Event.{Event}
 use Rattle.life_drop.specs.History.{ended, unless_ended}
@@ -12,16 +12,21 @@ use Rattle.life_script.specs.declared.scenario.Act.TheVariants as act
 use Rattle.life_script.specs.declared.scenario.Limits.{Limits}
 use Rattle.life_session.specs.Acts.{Own}
 use Rattle.life_session.specs.Course.{Course, Fresh, Awaited, Streamed, Turns, after_answer, frame_told, told, Over}
-use Rattle.life_stack.specs.Stack.Course.{AwaitedAfter, FreshAfter, OverAfter, StoryAfter, StreamedAfter, reply_of, signs, IsGone}
-use Rattle.life_stack.specs.Stack.Driven.{Plan, timed_body_history}
+use Rattle.life_stack.specs.Stack.Course.{AwaitedAfter, FreshAfter, LifeIs, OverAfter, StoryAfter, StreamedAfter, reply_of, signs, IsGone}
+use Rattle.life_stack.specs.Stack.Driven.{Plan, WatchedPlan, timed_body_history, watched_body_history}
+use Rattle.life_stack.specs.Stack.Tracing.{drive_classes, drive_events, head_class}
+use Rattle.life_core.specs.Life.{life_begun, life_on}
+use Rattle.life_core.specs.Timer.{since}
+use Rattle.life_trace.specs.History.{life_at, said_told}
 use Rattle.life_stack.specs.Service.History.{BodyPlan, Head}
 use Rattle.life_stack.specs.Stack.Keeping.{drive_histories, drive_table}
 use Rattle.life_stack.specs.Table.Request.{Numbered, shown_headers}
 use Rattle.life_session.specs.Moments.{called_at, dropped_at, first_drop, polls, polls_before_drop}
-use Rattle.life_stack.specs.Table.Story.{Failed, Outcome, Replied, answer, body_answer, by_first_answer, drop_answer, drop_events, drops, events, first_answer, is_ending, on_call, on_drop, on_poll, on_poll_events, poll_events, tells_after, undue_events}
+use Rattle.life_stack.specs.Table.Story.{Failed, Outcome, Replied, answer, body_answer, body_answers, body_events, by_first_answer, drop_answer, drop_events, drops, events, first_answer, is_ending, later_events, on_call, on_call_events, on_drop, on_poll, on_poll_events, poll_events, tells_after, undue_events}
 use Rattle.life_stack.proofs.TableLaws.Acts.{any_next, kind_next, or_false}
 use Rattle.life_session.proofs.MomentLaws.{called_kept, called_next, none_after_next, polls_after_call, polls_after_poll, dropped_after_call, dropped_after_poll, dropped_now, dropped_kept}
-use Rattle.life_stack.proofs.TableLaws.Answering.{timed_says, first_answer_said, answer_at_first, answer_above_first, last_poll, earlier_poll, ending_told, kind_told, body_table, frame_events, none_later, up_to_now}
+use Rattle.life_stack.proofs.TableLaws.Answering.{timed_says, first_answer_said, answer_at_first, answer_above_first, last_poll, earlier_poll, ending_told, kind_told, body_table, frame_events, later_on, up_to_now, watched_said}
+use Rattle.life_stack.proofs.TableLaws.Traces.{body_answers_push, body_traced, life_pushed, life_told, told as told_of}
 use Rattle.life_stack.proofs.TableLaws.FirstAnswers.{first_answer_of, first_answer_kept, length_push, no_first_answer, first_answer_below}
 
 module _ (limits : Limits) (request : Numbered) (before : List Own) where
@@ -40,7 +45,7 @@ module _ (limits : Limits) (request : Numbered) (before : List Own) where
         let a : answer limits request before (t, act.Call) ≡ ans.Called = ap on_call at.uncalled in
         let no_polls : polls (before ++ (t, act.Call) ∷ []) ≡ [] = ap polls_before_drop (none_after_next before at.uncalled (t, act.Call)) in record {
           answer = a;
-          events = refl;
+          events = ap (on_call_events limits request) at.uncalled;
           course = record {
             called = called_next before at.uncalled (t, act.Call);
             undropped = ap first_drop (none_after_next before at.uncalled (t, act.Call));
@@ -62,7 +67,7 @@ module _ (limits : Limits) (request : Numbered) (before : List Own) where
     pub fresh_polled : (t : ℕ) → Turn Fresh (t, act.Poll)
     fresh_polled t = let a = ap (λ c. on_poll limits request c (dropped_at before) (polls before ++ t ∷ []) (length (polls before))) at.uncalled in record {
       answer = a;
-      events = ap (λ c. on_poll_events limits request c (dropped_at before) (polls before ++ t ∷ []) (length (polls before)) t) at.uncalled;
+      events = ap (λ c. on_poll_events limits request c (dropped_at before) (polls before) t) at.uncalled;
       course = fresh_more (t, act.Poll) a (called_next before at.uncalled (t, act.Poll));
     }
 
@@ -88,11 +93,11 @@ module _ (limits : Limits) (request : Numbered) (before : List Own) where
         ∙ ap (λ d. on_poll limits request (Some t0) d (polls before ++ t ∷ []) (length (polls before))) undropped
         ∙ ap (by_first_answer limits (polls before ++ t ∷ []) (length (polls before))) e
 
-    poll_records : (t : ℕ) (o : Option (ℕ × Outcome)) → first_answer limits request t0 (polls before ++ t ∷ []) ≡ o → events limits request before (t, act.Poll) ≡ poll_events limits request t0 (length (polls before)) t o
+    poll_records : (t : ℕ) (o : Option (ℕ × Outcome)) → first_answer limits request t0 (polls before ++ t ∷ []) ≡ o → events limits request before (t, act.Poll) ≡ poll_events limits request t0 (polls before) t o
     poll_records t o e =
-        ap (λ c. on_poll_events limits request c (dropped_at before) (polls before ++ t ∷ []) (length (polls before)) t) called
-        ∙ ap (λ d. on_poll_events limits request (Some t0) d (polls before ++ t ∷ []) (length (polls before)) t) undropped
-        ∙ ap (poll_events limits request t0 (length (polls before)) t) e
+        ap (λ c. on_poll_events limits request c (dropped_at before) (polls before) t) called
+        ∙ ap (λ d. on_poll_events limits request (Some t0) d (polls before) t) undropped
+        ∙ ap (poll_events limits request t0 (polls before) t) e
 
     polled_more : (t : ℕ) → polls (before ++ (t, act.Poll) ∷ []) ≡ polls before ++ t ∷ []
     polled_more t = polls_after_poll before t0 called t undropped
@@ -115,7 +120,7 @@ module _ (limits : Limits) (request : Numbered) (before : List Own) where
 
   -- what the stack says at a time by what the service says under the timer
   abbrev planned : ℕ → Said Head BodyPlan (List ℕ) → Said Head Plan (List ℕ)
-  planned t said = said_under {P = ℕ × BodyPlan} {Q = Plan} (λ head p. (head, p)) (said_under {P = BodyPlan} {Q = ℕ × BodyPlan} (λ head p. (t, p)) said)
+  planned t said = said_under {P = WatchedPlan} {Q = Plan} (λ head p. record { head = head; responded = t; inner = p }) (watched_said t said)
 
   module _ (t0 : ℕ) (past : List ℕ) (at : AwaitedAfter limits request (signs limits request before) t0 past) where
     by_answer : (t : ℕ) (said : Said Head BodyPlan (List ℕ)) → first_answer limits request t0 (polls before ++ t ∷ []) ≡ first_answer_of (length (polls before)) said →
@@ -137,6 +142,8 @@ module _ (limits : Limits) (request : Numbered) (before : List Own) where
         let k = length (polls before) in
         let more = polled_more t0 at.called at.undropped t in
         let r : ReplyView = record { status = said.0; headers = said.1; body = p.items; tells = p.tells } in
+        let none_since : drop (suc k) (polls (before ++ (t, act.Poll) ∷ [])) ≡ [] =
+        ap (drop (suc k)) more ∙ drop_of_length-le (polls before ++ t ∷ []) {i = suc k} (omega (arith, length_push (polls before) t)) in
         let given : Answer = ans.Response r.status (shown_headers r.headers) (tells_after r 0) in
         let a : answer limits request before (t, act.Poll) ≡ given = poll_answer t0 at.called at.undropped t (Some (k, Replied r)) e ∙ answer_at_first limits (polls before ++ t ∷ []) k (Replied r) in (
           a,
@@ -146,10 +153,12 @@ module _ (limits : Limits) (request : Numbered) (before : List Own) where
             undropped = dropped_after_poll before t0 at.called t ∙ at.undropped;
             first_answer_is = ap (first_answer limits request t0) more ∙ e;
             at_first_answer = ap (λ ps. slice_index ps k) more ∙ last_poll (polls before) t;
-            past_is = ap reverse (sym (ap (drop (suc k)) more ∙ drop_of_length-le (polls before ++ t ∷ []) {i = suc k} (omega (arith, length_push (polls before) t))));
+            past_is = ap reverse (sym none_since);
             polled = ap length more ∙ length_push (polls before) t ∙ omega arith;
             kind = kind_next limits request before (t, act.Poll) given a;
             ending = any_next limits request before (t, act.Poll) given a ∙ ap (λ b. b || tells_after r 0) at.no_ending;
+            life = subst (λ qs. LifeIs t0 t (life_begun t0 t (tells_after r 0)) (body_answers limits.body_deadline r t 0 qs)) (sym none_since)
+                (record { responded = refl; last = refl; closed = refl; faulted = refl });
           },
         )
     by_answer t (Fails error) e =
@@ -168,12 +177,13 @@ module _ (limits : Limits) (request : Numbered) (before : List Own) where
         let e = first_answer_said limits request t0 (polls before) t at.unanswered in
         let both = by_answer t (timed_says limits request t0 (length past) t) (e ∙ ap (λ n. first_answer_of k (timed_says limits request t0 n t)) (sym at.polled)) in record {
           answer = both.0;
-          events = poll_records t0 at.called at.undropped t _ e ∙ up_to_now limits request t0 k t (timed_says limits request t0 k t) ∙ ap (λ n. undue_events limits request t0 n t) (sym at.polled);
+          events = poll_records t0 at.called at.undropped t _ e ∙ up_to_now limits request t0 (polls before) t (timed_says limits request t0 k t)
+              ∙ ap (λ n. undue_events limits request t0 n t ++ said_told drive_events (drive_classes limits.classifier) (watched_said t (timed_says limits request t0 n t)) (since t0 t)) (sym at.polled);
           course = both.1;
         }
 
     pub awaited_called : (t : ℕ) → Turn (Awaited t0 past) (t, act.Call)
-    awaited_called t = record { answer = ap on_call at.called; events = refl; course = subst (λ s. AwaitedAfter limits request s t0 past) (sym (call_unseen t0 at.called t)) at }
+    awaited_called t = record { answer = ap on_call at.called; events = ap (on_call_events limits request) at.called; course = subst (λ s. AwaitedAfter limits request s t0 past) (sym (call_unseen t0 at.called t)) at }
 
     pub awaited_drops : (t : ℕ) → drops limits request before t ≡ (drive_histories.future (limits, request) t0).abandoned past t
     awaited_drops t = rw (at.called, at.no_ending, at.kind) refl
@@ -186,7 +196,7 @@ module _ (limits : Limits) (request : Numbered) (before : List Own) where
   module _ (t0 : ℕ) (plan : Plan) (past : List ℕ) (at : StreamedAfter limits request (signs limits request before) t0 plan past) where
     pub streamed_polled : (t : ℕ) → Latest t past → Turn (Streamed t0 plan past) (t, act.Poll)
     streamed_polled t latest =
-        let hist = timed_body_history limits.body_deadline plan.1 in
+        let hist = timed_body_history limits.body_deadline plan.inner.1 in
         let reply = reply_of plan in
         let ps = polls before in
         let k = length ps in
@@ -194,16 +204,34 @@ module _ (limits : Limits) (request : Numbered) (before : List Own) where
         let kept = first_answer_kept limits request t0 ps t (at.h, Replied reply) at.first_answer_is in
         let below : at.h < k = omega (arith, at.polled) in
         let place : k - suc at.h ≡ length past = omega (arith, at.polled) in
-        let table : answer limits request before (t, act.Poll) ≡ body_answer limits.body_deadline reply plan.1.0 t (length past) =
+        let table : answer limits request before (t, act.Poll) ≡ body_answer limits.body_deadline reply plan.inner.1.0 t (length past) =
         poll_answer t0 at.called at.undropped t _ kept
         ∙ answer_above_first limits (ps ++ t ∷ []) k at.h (Replied reply) below
         ∙ ap (λ y. body_answer limits.body_deadline reply y (slice_index (ps ++ t ∷ []) k) (k - suc at.h)) (earlier_poll ps t at.h below ∙ at.at_first_answer)
-        ∙ ap (λ y. body_answer limits.body_deadline reply plan.1.0 y (k - suc at.h)) (last_poll ps t)
-        ∙ ap (body_answer limits.body_deadline reply plan.1.0 t) place in
-        let said : answer limits request before (t, act.Poll) ≡ frame_told (hist.frame past t) (hist.ends (t ∷ past)) = table ∙ sym (body_table limits.body_deadline plan.1.0 reply past t latest) in
+        ∙ ap (λ y. body_answer limits.body_deadline reply plan.inner.1.0 y (k - suc at.h)) (last_poll ps t)
+        ∙ ap (body_answer limits.body_deadline reply plan.inner.1.0 t) place in
+        let ph = plan.inner.1.0 in
+        let qs = drop (suc at.h) ps in
+        let given = body_answers limits.body_deadline reply ph 0 qs in
+        let life = life_at t0 plan.responded (watched_body_history limits t0 plan.inner) past in
+        let since_is : length past ≡ length qs = ap length at.past_is ∙ length-reverse qs in
+        let one_more : given ++ (t, frame_told (hist.frame past t) (hist.ends (t ∷ past))) ∷ [] ≡ body_answers limits.body_deadline reply ph 0 (drop (suc at.h) (polls (before ++ (t, act.Poll) ∷ []))) =
+        ap (λ a. given ++ (t, a) ∷ []) (body_table limits.body_deadline ph reply past t latest)
+        ∙ ap (λ n. given ++ (t, body_answer limits.body_deadline reply ph t n) ∷ []) (omega (arith, since_is))
+        ∙ sym (body_answers_push limits.body_deadline reply ph 0 qs t)
+        ∙ ap (body_answers limits.body_deadline reply ph 0) (sym (drop-append-le (suc at.h) ps (t ∷ []) below))
+        ∙ ap (λ l. body_answers limits.body_deadline reply ph 0 (drop (suc at.h) l)) (sym more) in
+        let said : answer limits request before (t, act.Poll) ≡ frame_told (hist.frame past t) (hist.ends (t ∷ past)) = table ∙ sym (body_table limits.body_deadline plan.inner.1.0 reply past t latest) in
         record {
           answer = said;
-          events = poll_records t0 at.called at.undropped t _ kept ∙ none_later limits request t0 k t at.h (Replied reply) below ∙ sym (frame_events limits.body_deadline plan.1.0 plan.1.1 past t);
+          events = poll_records t0 at.called at.undropped t _ kept
+              ∙ later_on limits request t0 ps t at.h (Replied reply) below
+              ∙ ap (λ y. later_events limits (Replied reply) t0 y qs t) at.at_first_answer
+              ∙ ap (body_events limits reply t0 ph given t) (sym since_is)
+              ∙ body_traced limits reply t0 ph given past t latest
+              ∙ life_told limits.classifier (head_class limits.classifier plan.head) t0 ph life given t (hist.frame past t) (hist.ends (t ∷ past)) at.life
+              ∙ ap (λ es. es ++ told_of limits.classifier (since life.last t) (since life.responded t) (head_class limits.classifier plan.head) life.closed life.faulted (hist.frame past t) (hist.ends (t ∷ past)))
+              (sym (frame_events limits.body_deadline ph plan.inner.1.1 past t));
           course = record {
             h = at.h;
             called = called_kept before t0 at.called (t, act.Poll);
@@ -215,18 +243,19 @@ module _ (limits : Limits) (request : Numbered) (before : List Own) where
             kind = kind_next limits request before (t, act.Poll) _ said ∙ kind_told (hist.frame past t) (hist.ends (t ∷ past)) _ ∙ at.kind;
             ending = any_next limits request before (t, act.Poll) _ said ∙ ap (λ y. y || is_ending (frame_told (hist.frame past t) (hist.ends (t ∷ past)))) at.ending
                 ∙ ap (λ y. ended hist past || y) (ending_told (hist.frame past t) (hist.ends (t ∷ past)));
+            life = subst (LifeIs t0 ph (life_on life t (Ok (hist.frame past t)) (hist.ends (t ∷ past)))) one_more (life_pushed t0 ph life given t at.life (hist.frame past t) (hist.ends (t ∷ past)));
           };
         }
 
     pub streamed_called : (t : ℕ) → Turn (Streamed t0 plan past) (t, act.Call)
-    streamed_called t = record { answer = ap on_call at.called; events = refl; course = subst (λ s. StreamedAfter limits request s t0 plan past) (sym (call_unseen t0 at.called t)) at }
+    streamed_called t = record { answer = ap on_call at.called; events = ap (on_call_events limits request) at.called; course = subst (λ s. StreamedAfter limits request s t0 plan past) (sym (call_unseen t0 at.called t)) at }
 
     unless_is : (x : Bool) (es : List Event) → (if x then [] else es) ≡ unless_ended x es
     unless_is true es = refl
     unless_is false es = refl
 
     pub streamed_drops : (t : ℕ) → drops limits request before t ≡ (drive_histories.body (limits, request) t0 plan).abandoned past t
-    streamed_drops t = rw (at.called, at.ending, at.kind) (unless_is (ended (timed_body_history limits.body_deadline plan.1) past) _)
+    streamed_drops t = rw (at.called, at.ending, at.kind) (unless_is (ended (timed_body_history limits.body_deadline plan.inner.1) past) _)
 
     pub streamed_dropped : (t : ℕ) → Turn (Streamed t0 plan past) (t, act.Drop)
     streamed_dropped t = let d = dropped t0 at.called at.undropped (Streamed t0 plan past) t _ (ap drop_answer at.first_answer_is) (streamed_drops t) in record { answer = d.0; events = d.1; course = d.2 }
@@ -246,13 +275,13 @@ module _ (limits : Limits) (request : Numbered) (before : List Own) where
       ∙ ap drop_answer g.3
 
   gone_events : (x : Own) (t0 : ℕ) → called_at before ≡ Some t0 → IsGone limits request t0 (signs limits request before) → events limits request before x ≡ []
-  gone_events (t, act.Call) t0 c g = refl
-  gone_events (t, act.Poll) t0 c (inl g) = ap (λ o. on_poll_events limits request o (dropped_at before) (polls before ++ t ∷ []) (length (polls before)) t) c
-      ∙ ap (λ o. on_poll_events limits request (Some t0) o (polls before ++ t ∷ []) (length (polls before)) t) g.1
-  gone_events (t, act.Poll) t0 c (inr g) = ap (λ o. on_poll_events limits request o (dropped_at before) (polls before ++ t ∷ []) (length (polls before)) t) c
-      ∙ ap (λ o. on_poll_events limits request (Some t0) o (polls before ++ t ∷ []) (length (polls before)) t) g.2
-      ∙ ap (poll_events limits request t0 (length (polls before)) t) (first_answer_kept limits request t0 (polls before) t (g.0, Failed g.1) g.3)
-      ∙ none_later limits request t0 (length (polls before)) t g.0 (Failed g.1) (first_answer_below limits request t0 (polls before) g.0 (Failed g.1) g.3)
+  gone_events (t, act.Call) t0 c g = ap (on_call_events limits request) c
+  gone_events (t, act.Poll) t0 c (inl g) = ap (λ o. on_poll_events limits request o (dropped_at before) (polls before) t) c
+      ∙ ap (λ o. on_poll_events limits request (Some t0) o (polls before) t) g.1
+  gone_events (t, act.Poll) t0 c (inr g) = ap (λ o. on_poll_events limits request o (dropped_at before) (polls before) t) c
+      ∙ ap (λ o. on_poll_events limits request (Some t0) o (polls before) t) g.2
+      ∙ ap (poll_events limits request t0 (polls before) t) (first_answer_kept limits request t0 (polls before) t (g.0, Failed g.1) g.3)
+      ∙ later_on limits request t0 (polls before) t g.0 (Failed g.1) (first_answer_below limits request t0 (polls before) g.0 (Failed g.1) g.3)
   gone_events (t, act.Drop) t0 c g = drop_idle t (gone_answer (t, act.Drop) t0 c g)
 
   gone_more : (x : Own) (t0 : ℕ) → called_at before ≡ Some t0 → IsGone limits request t0 (signs limits request before) → IsGone limits request t0 (signs limits request (before ++ x ∷ []))

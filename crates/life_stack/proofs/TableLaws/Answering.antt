@@ -1,18 +1,18 @@
 -- The composed histories give the answers of the table.
-use Rattle.std.proofs.Common.{◌≡◌, ℕ, suc, ◌-◌, ◌<◌, List, [], ◌∷◌, ◌++◌, length, Bool, true, false, Option, Some, None, Ok, Err, Result, refl, ◌∙◌, arith, le-ltb}
+use Rattle.std.proofs.Common.{◌≡◌, ℕ, suc, ◌-◌, ◌<◌, List, [], ◌∷◌, ◌++◌, length, drop, Bool, true, false, Option, Some, None, Ok, Err, Result, refl, sym, ap, ◌∙◌, arith, le-ltb, append-nil}
 use Rattle.std.specs.Prelude.{slice_get, slice_index, if◌then◌else◌}
-use Rattle.std.proofs.lemmas.Bool.{eq-eqb, le-leb, lt-leb, ne_eqb}
+use Rattle.std.proofs.lemmas.Bool.{eq-eqb, ne_eqb}
 use Rattle.std.proofs.lemmas.List.{get_or_at, get_or_append_left}
 use Rattle.http_body.specs.declared.frame.Frame.{Frame}
 use Rattle.life_core.specs.declared.body.BodyError.{BodyError}
 use Rattle.life_core.specs.declared.body.BodyError.TheVariants.{Elapsed}
 use Rattle.life_core.specs.declared.poll.Poll.{Poll}
 use Rattle.life_core.specs.declared.poll.Poll.TheVariants.{Ready, Pending}
-use Rattle.life_core.specs.History.{Latest, Said, Waits, Gives, Fails, said_with}
+use Rattle.life_core.specs.History.{Latest, Said, Waits, Gives, Fails, said_under, said_with}
 use Rattle.life_drop.specs.EarlyBody.{is_ending_frame}
 use Rattle.life_time.specs.History.{undue, wrapped}
 use Rattle.life_time.proofs.DeadlineFollows.{undue_all}
-use Rattle.life_core.specs.Timer.{due}
+use Rattle.life_core.specs.Timer.{due, since}
 use Rattle.life_core.specs.declared.event.DropKind.{DropKind}
 use Rattle.life_core.specs.declared.event.Event.{Event}
 use Rattle.life_stack.specs.Table.Request.{Numbered, ident}
@@ -21,12 +21,15 @@ use Rattle.life_script.specs.declared.answer.Answer.TheVariants as ans
 use Rattle.life_script.specs.declared.scenario.BodyItem.{BodyItem}
 use Rattle.life_script.specs.declared.scenario.BodyItem.TheVariants as body_item
 use Rattle.life_script.specs.declared.scenario.Limits.{Limits}
-use Rattle.life_stack.specs.Table.Story.{Outcome, Replied, body_answer, by_first_answer, due_reply, first_answer, outcome_answer, is_ending, item_answer, kind_after, later_answer, poll_events, tells_after, undue_events}
-use Rattle.life_stack.specs.Stack.Driven.{named, service_says, timed_body_history}
+use Rattle.life_stack.specs.Table.Story.{Outcome, Replied, body_answer, by_first_answer, due_reply, first_answer, outcome_answer, is_ending, item_answer, kind_after, later_answer, later_events, poll_events, tells_after, undue_events}
+use Rattle.life_stack.specs.Stack.Driven.{WatchedPlan, named, service_says, timed_body_history}
+use Rattle.life_stack.specs.Stack.Tracing.{drive_classes, drive_events}
+use Rattle.life_trace.specs.History.{said_told}
 use Rattle.life_stack.specs.Service.History.{BodyPlan, Head, body_plan}
 use Rattle.life_stack.specs.Service.Script.{item_frame}
 use Rattle.life_session.specs.Course.{frame_told}
 use Rattle.life_stack.proofs.TableLaws.FirstAnswers.{first_answer_of, first_answer_more}
+use Rattle.life_stack.proofs.TableLaws.Traces.{error_traced, response_traced}
 
 -- what the service says under the timer
 abbrev pub timed_says : Limits → Numbered → ℕ → ℕ → ℕ → Said Head BodyPlan (List ℕ)
@@ -85,14 +88,23 @@ body_table deadline ph r past q l = go (due ph deadline q) refl
     go true e = refl
     go false e = rw (undue_all ph deadline q past l e) (item_table r (length past) (slice_get r.body (length past)))
 
--- up to the first answer, and after it
-pub up_to_now : (limits : Limits) (request : Numbered) (t0 k t : ℕ) (said : Said Head BodyPlan (List ℕ)) → poll_events limits request t0 k t (first_answer_of k said) ≡ undue_events limits request t0 k t
-up_to_now limits request t0 k t Waits = refl
-up_to_now limits request t0 k t (Gives h p) = rw (le-leb k k (omega arith)) refl
-up_to_now limits request t0 k t (Fails x) = rw (le-leb k k (omega arith)) refl
+-- what the layers below the trace say at a time by what the service says under the timer
+abbrev pub watched_said : ℕ → Said Head BodyPlan (List ℕ) → Said Head WatchedPlan (List ℕ)
+watched_said t said = said_under {P = ℕ × BodyPlan} {Q = WatchedPlan} (λ head p. (head, p)) (said_under {P = BodyPlan} {Q = ℕ × BodyPlan} (λ head p. (t, p)) said)
 
-pub none_later : (limits : Limits) (request : Numbered) (t0 k t h : ℕ) (o : Outcome) → h < k → poll_events limits request t0 k t (Some (h, o)) ≡ []
-none_later limits request t0 k t h o below = rw (lt-leb k h below) refl
+-- up to the first answer, and after it
+pub up_to_now : (limits : Limits) (request : Numbered) (t0 : ℕ) (ps : List ℕ) (t : ℕ) (said : Said Head BodyPlan (List ℕ)) →
+    poll_events limits request t0 ps t (first_answer_of (length ps) said)
+    ≡ undue_events limits request t0 (length ps) t ++ said_told drive_events (drive_classes limits.classifier) (watched_said t said) (since t0 t)
+up_to_now limits request t0 ps t Waits = sym (append-nil (undue_events limits request t0 (length ps) t))
+up_to_now limits request t0 ps t (Gives h p) = rw (eq-eqb (length ps) (length ps) refl)
+    (ap (λ es. undue_events limits request t0 (length ps) t ++ es) (response_traced limits (record { status = h.0; headers = h.1; body = p.items; tells = p.tells }) WatchedPlan (h, (t, p)) (since t0 t)))
+up_to_now limits request t0 ps t (Fails x) = rw (eq-eqb (length ps) (length ps) refl)
+    (ap (λ es. undue_events limits request t0 (length ps) t ++ es) (error_traced limits x WatchedPlan (since t0 t)))
+
+pub later_on : (limits : Limits) (request : Numbered) (t0 : ℕ) (ps : List ℕ) (t h : ℕ) (o : Outcome) → h < length ps →
+    poll_events limits request t0 ps t (Some (h, o)) ≡ later_events limits o t0 (slice_index ps h) (drop (suc h) ps) t
+later_on limits request t0 ps t h o below = rw (ne_eqb (length ps) h (λ e. omega (arith, below, e))) refl
 
 -- A poll of a body records nothing.
 no_events : (b : Bool) → ◌≡◌ {A = List Event} (if b then [] else []) []

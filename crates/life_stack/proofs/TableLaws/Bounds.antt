@@ -1,8 +1,8 @@
 -- No service is handed more bytes of its request's body than there is room for.
 use Rattle.std.proofs.Common.{◌≡◌, ◌≤◌, ℕ, zero, suc, ◌+◌, ◌-◌, List, [], ◌∷◌, ◌++◌, length, Bool, true, false, Option, Some, None, refl, ap, ◌∙◌, arith}
 use Rattle.std.proofs.lemmas.Bool.{leb-true}
-use Rattle.std.specs.Prelude.{nat_le, slice_get, if◌then◌else◌}
-use Rattle.life_core.specs.Timer.{due}
+use Rattle.std.specs.Prelude.{◌==◌, drop, nat_le, slice_get, slice_index, if◌then◌else◌}
+use Rattle.life_core.specs.Timer.{due, since}
 use Rattle.life_core.specs.declared.event.DropKind.TheVariants as drop_kind
 use Rattle.life_core.specs.declared.event.Event.{Event}
 use Rattle.life_core.specs.declared.event.Event.TheVariants as event
@@ -23,10 +23,11 @@ use Rattle.life_stack.specs.Table.Request.{Numbered}
 use Rattle.life_session.specs.Acts.{Own}
 use Rattle.life_session.specs.Moments.{called_at, dropped_at, polls, polls_before_drop}
 use Rattle.life_session.specs.Table.{turns_by}
-use Rattle.life_stack.specs.Table.Story.{Outcome, answer, answers, any_ending, body_bytes, drop_events, drops, drops_at, events, first_answer, kind_of, on_poll_events, poll_events, story, story_table, turns_bytes, undue_events, unless_dropped}
+use Rattle.life_stack.specs.Table.Story.{Outcome, answer, answers, any_ending, body_bytes, drop_events, drops, drops_at, events, first_answer, kind_of, on_call_events, on_poll_events, outcome_events, poll_events, story, story_table, turns_bytes, undue_events, unless_dropped}
 use Rattle.life_session.proofs.MomentLaws.{after_same, polls_after_call, polls_after_drop, polls_after_dropped, polls_after_poll}
 use Rattle.life_stack.proofs.ServiceLaws.Handing.{asked_more, no_item, room_none}
 use Rattle.life_stack.proofs.TableLaws.FirstAnswers.{length_push}
+use Rattle.life_stack.proofs.TableLaws.Quiet.{bytes_append, call_quiet, later_quiet, outcome_quiet}
 
 -- ONE ASK takes from the room what it hands.
 
@@ -57,10 +58,6 @@ all_taken left items j (suc n) =
     let next : j + suc n ≡ suc j + n = omega arith in
     let same = ap (room_before left items) next in
     omega (arith, one, rest, same)
-
-bytes_append : (es fs : List Event) → handed_bytes (es ++ fs) ≡ handed_bytes es + handed_bytes fs
-bytes_append [] fs = omega arith
-bytes_append (e ∷ es) fs = let rest = bytes_append es fs in omega (arith, rest)
 
 panic_bytes : (o : Option PollItem) → handed_bytes (panic_at o) ≡ 0
 panic_bytes None = refl
@@ -127,9 +124,20 @@ module _ (limits : Limits) (request : Numbered) where
   undue_takes : (t0 k t : ℕ) → Takes (undue_events limits request t0 k t) k
   undue_takes t0 k t = choice_takes (due t0 limits.timeout t) [] _ k (none_takes [] k refl) (decided_takes (decision limits request) k)
 
-  poll_takes : (t0 k t : ℕ) (o : Option (ℕ × Outcome)) → Takes (poll_events limits request t0 k t o) k
-  poll_takes t0 k t None = undue_takes t0 k t
-  poll_takes t0 k t (Some (h, o)) = choice_takes (nat_le k h) _ [] k (undue_takes t0 k t) (none_takes [] k refl)
+  -- what is traced takes nothing
+  answered_takes : (t0 k t : ℕ) (o : Outcome) (l : ℕ) → Takes (undue_events limits request t0 k t ++ outcome_events limits o l) k
+  answered_takes t0 k t o l =
+      let both = bytes_append (undue_events limits request t0 k t) (outcome_events limits o l) in
+      let told = outcome_quiet limits o l in
+      let none = told.1 in
+      let all = undue_takes t0 k t in
+      omega (arith, both, none, all)
+
+  poll_takes : (t0 : ℕ) (ps : List ℕ) (t : ℕ) (o : Option (ℕ × Outcome)) → Takes (poll_events limits request t0 ps t o) (length ps)
+  poll_takes t0 ps t None = undue_takes t0 (length ps) t
+  poll_takes t0 ps t (Some (h, o)) =
+      let later = later_quiet limits o t0 (slice_index ps h) (drop (suc h) ps) t in
+      choice_takes (length ps == h) _ _ (length ps) (answered_takes t0 (length ps) t o (since t0 t)) (none_takes _ (length ps) later.1)
 
   -- one act takes from the room that was left before it
   abbrev Within : List Own → Own → Type 0
@@ -141,27 +149,30 @@ module _ (limits : Limits) (request : Numbered) where
   drop_nothing : (before : List Own) (t : ℕ) → handed_bytes (events limits request before (t, act.Drop)) ≡ 0
   drop_nothing before t = drop_bytes (answer limits request before (t, act.Drop)) _ (dropped_bytes (called_at (before ++ (t, act.Drop) ∷ [])) (answers limits request (before ++ (t, act.Drop) ∷ [])) t)
 
+  call_nothing : (before : List Own) → handed_bytes (on_call_events limits request (called_at before)) ≡ 0
+  call_nothing before = let told = call_quiet limits request (called_at before) in told.1
+
   polled : (before : List Own) (t t0 : ℕ) → called_at before ≡ Some t0 → dropped_at before ≡ None → Within before (t, act.Poll)
   polled before t t0 c d =
       let k = length (polls before) in
       let more : length (polls (before ++ (t, act.Poll) ∷ [])) ≡ suc k = ap length (polls_after_poll before t0 c t d) ∙ length_push (polls before) t in
-      let made : events limits request before (t, act.Poll) ≡ poll_events limits request t0 k t (first_answer limits request t0 (polls before ++ t ∷ [])) =
-      ap (λ o. on_poll_events limits request o (dropped_at before) (polls before ++ t ∷ []) k t) c ∙ ap (λ o. on_poll_events limits request (Some t0) o (polls before ++ t ∷ []) k t) d in
-      let takes = poll_takes t0 k t (first_answer limits request t0 (polls before ++ t ∷ [])) in
+      let made : events limits request before (t, act.Poll) ≡ poll_events limits request t0 (polls before) t (first_answer limits request t0 (polls before ++ t ∷ [])) =
+      ap (λ o. on_poll_events limits request o (dropped_at before) (polls before) t) c ∙ ap (λ o. on_poll_events limits request (Some t0) o (polls before) t) d in
+      let takes = poll_takes t0 (polls before) t (first_answer limits request t0 (polls before ++ t ∷ [])) in
       let same = ap left_at more in
       let bytes = ap handed_bytes made in
       omega (arith, takes, same, bytes)
 
   step : (before : List Own) (x : Own) (c d : Option ℕ) → called_at before ≡ c → dropped_at before ≡ d → Within before x
-  step before (t, act.Call) None d c e = nothing before (t, act.Call) (ap polls_before_drop (after_same before c (t, act.Call))) refl
+  step before (t, act.Call) None d c e = nothing before (t, act.Call) (ap polls_before_drop (after_same before c (t, act.Call))) (call_nothing before)
   step before (t, act.Poll) None d c e = nothing before (t, act.Poll) (ap polls_before_drop (after_same before c (t, act.Poll)))
-      (ap (λ o. handed_bytes (on_poll_events limits request o (dropped_at before) (polls before ++ t ∷ []) (length (polls before)) t)) c)
+      (ap (λ o. handed_bytes (on_poll_events limits request o (dropped_at before) (polls before) t)) c)
   step before (t, act.Drop) None d c e = nothing before (t, act.Drop) (ap polls_before_drop (after_same before c (t, act.Drop))) (drop_nothing before t)
-  step before (t, act.Call) (Some t0) d c e = nothing before (t, act.Call) (polls_after_call before t0 c t) refl
+  step before (t, act.Call) (Some t0) d c e = nothing before (t, act.Call) (polls_after_call before t0 c t) (call_nothing before)
   step before (t, act.Drop) (Some t0) d c e = nothing before (t, act.Drop) (polls_after_drop before t0 c t) (drop_nothing before t)
   step before (t, act.Poll) (Some t0) (Some d) c e = nothing before (t, act.Poll) (polls_after_dropped before t0 c (t, act.Poll) d e)
-      (ap (λ o. handed_bytes (on_poll_events limits request o (dropped_at before) (polls before ++ t ∷ []) (length (polls before)) t)) c
-      ∙ ap (λ o. handed_bytes (on_poll_events limits request (Some t0) o (polls before ++ t ∷ []) (length (polls before)) t)) e)
+      (ap (λ o. handed_bytes (on_poll_events limits request o (dropped_at before) (polls before) t)) c
+      ∙ ap (λ o. handed_bytes (on_poll_events limits request (Some t0) o (polls before) t)) e)
   step before (t, act.Poll) (Some t0) None c e = polled before t t0 c e
 
   turns_within : (acts before : List Own) → turns_bytes (turns_by (story_table limits request) before acts) ≤ left_at (length (polls before))

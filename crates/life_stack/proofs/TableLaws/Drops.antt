@@ -1,7 +1,7 @@
 -- The early drops of a whole story are those of the table.
 use Rattle.std.proofs.Common.{◌≡◌, ℕ, zero, suc, ◌-◌, List, [], ◌∷◌, ◌++◌, length, flat_map, Bool, true, false, Option, Some, None, refl, sym, ap, ◌∙◌, append-nil, append_assoc}
-use Rattle.std.specs.Prelude.{slice_get, nat_le, if◌then◌else◌}
-use Rattle.life_core.specs.Timer.{due}
+use Rattle.std.specs.Prelude.{◌==◌, drop, slice_get, slice_index, if◌then◌else◌}
+use Rattle.life_core.specs.Timer.{due, since}
 use Rattle.life_core.specs.declared.event.DropKind.TheVariants as drop_kind
 use Rattle.life_core.specs.declared.event.Event.{Event}
 use Rattle.life_core.specs.declared.event.Event.TheVariants as event
@@ -17,13 +17,14 @@ use Rattle.life_script.specs.declared.scenario.Limits.{Limits}
 use Rattle.life_session.specs.Acts.{Own}
 use Rattle.life_session.specs.Moments.{called_at, drop_time, dropped_at, first_drop, polls}
 use Rattle.life_session.specs.Table.{turns_by}
-use Rattle.life_stack.specs.Table.Story.{Failed, Outcome, Replied, answer, answers, any_ending, at_end, drop_answer, drop_events, drop_records, dropped_in, drops, drops_at, events, first_answer, kind_of, on_call, on_drop, on_poll_events, poll_events, story, story_table, undue_events, unless_dropped}
+use Rattle.life_stack.specs.Table.Story.{Failed, Outcome, Replied, answer, answers, any_ending, at_end, drop_answer, drop_events, drop_records, dropped_in, drops, drops_at, events, first_answer, kind_of, on_call, on_drop, on_poll_events, outcome_events, poll_events, story, story_table, undue_events, unless_dropped}
 use Rattle.life_stack.specs.Table.Decision.{Decision, TooLarge, Forbidden, Panicked, Served, decision}
 use Rattle.life_stack.specs.Table.Handed.{asked_before, asks_of, decided_events, handed_from, panic_at, panic_in, room}
 use Rattle.life_core.specs.declared.latency.LatencyUnit.TheVariants.{Nanos}
 use Rattle.life_script.specs.Told.{TurnView}
 use Rattle.life_stack.proofs.TableLaws.Failing.{Marked, ended_none, marked_none, marked_step}
 use Rattle.life_stack.proofs.TableLaws.Acts.{any_next, kind_next, or_false}
+use Rattle.life_stack.proofs.TableLaws.Quiet.{call_quiet, dropped_append, later_quiet, outcome_quiet}
 use Rattle.life_session.proofs.MomentLaws.{called_kept, after_same, dropped_after_poll, dropped_after_call, dropped_now, dropped_kept}
 
 -- the early drops of the turns from some act on
@@ -81,15 +82,23 @@ module _ (limits : Limits) (request : Numbered) where
   undue_quiet : (t0 k t : ℕ) → dropped_in (undue_events limits request t0 k t) ≡ []
   undue_quiet t0 k t = choice_quiet (due t0 limits.timeout t) [] _ refl (decided_quiet (decision limits request) (room limits request.script) k)
 
-  poll_quiet : (t0 k t : ℕ) (o : Option (ℕ × Outcome)) → dropped_in (poll_events limits request t0 k t o) ≡ []
-  poll_quiet t0 k t None = undue_quiet t0 k t
-  poll_quiet t0 k t (Some (h, o)) = choice_quiet (nat_le k h) _ [] (undue_quiet t0 k t) refl
+  -- nor does the poll that answers first, nor a later one
+  answered_quiet : (t0 k t : ℕ) (o : Outcome) (l : ℕ) → dropped_in (undue_events limits request t0 k t ++ outcome_events limits o l) ≡ []
+  answered_quiet t0 k t o l =
+      let first = undue_events limits request t0 k t in let last = outcome_events limits o l in let told = outcome_quiet limits o l in
+      dropped_append first last ∙ ap (λ es. es ++ dropped_in last) (undue_quiet t0 k t) ∙ told.0
+
+  poll_quiet : (t0 : ℕ) (ps : List ℕ) (t : ℕ) (o : Option (ℕ × Outcome)) → dropped_in (poll_events limits request t0 ps t o) ≡ []
+  poll_quiet t0 ps t None = undue_quiet t0 (length ps) t
+  poll_quiet t0 ps t (Some (h, o)) =
+      let later = later_quiet limits o t0 (slice_index ps h) (drop (suc h) ps) t in
+      choice_quiet (length ps == h) _ _ (answered_quiet t0 (length ps) t o (since t0 t)) later.0
 
   -- after the Drop nothing is recorded
   idle_quiet : (acts : List Own) (x : Own) (t0 d : ℕ) → called_at acts ≡ Some t0 → dropped_at acts ≡ Some d → dropped_in (events limits request acts x) ≡ []
-  idle_quiet acts (t, act.Call) t0 d c e = refl
-  idle_quiet acts (t, act.Poll) t0 d c e = ap (λ o. dropped_in (on_poll_events limits request o (dropped_at acts) (polls acts ++ t ∷ []) (length (polls acts)) t)) c
-      ∙ ap (λ o. dropped_in (on_poll_events limits request (Some t0) o (polls acts ++ t ∷ []) (length (polls acts)) t)) e
+  idle_quiet acts (t, act.Call) t0 d c e = let told = call_quiet limits request (called_at acts) in told.0
+  idle_quiet acts (t, act.Poll) t0 d c e = ap (λ o. dropped_in (on_poll_events limits request o (dropped_at acts) (polls acts) t)) c
+      ∙ ap (λ o. dropped_in (on_poll_events limits request (Some t0) o (polls acts) t)) e
   idle_quiet acts (t, act.Drop) t0 d c e = ap (λ a. dropped_in (drop_events a (drops limits request (acts ++ (t, act.Drop) ∷ []) t))) (idle_after acts (t, act.Drop) t0 d c e)
 
   -- an early drop is one
@@ -159,16 +168,16 @@ module _ (limits : Limits) (request : Numbered) where
   any_drop t before acts end t0 (Some (k, Failed error)) m c d h ih = failed_step t before acts end t0 c d (ap drop_answer h) (m t0 k error c h) ih
 
   step : (x : Own) (before acts : List Own) (end : ℕ) (c d : Option ℕ) → Marked limits request before → called_at before ≡ c → dropped_at before ≡ d → Records (before ++ x ∷ []) acts end → Records before (x ∷ acts) end
-  step (t, act.Call) before acts end None d m c e ih = quiet_step (t, act.Call) before acts end refl
+  step (t, act.Call) before acts end None d m c e ih = let told = call_quiet limits request (called_at before) in quiet_step (t, act.Call) before acts end told.0
       (ap first_drop (after_same before c (t, act.Call))) ih
-  step (t, act.Poll) before acts end None d m c e ih = quiet_step (t, act.Poll) before acts end (ap (λ o. dropped_in (on_poll_events limits request o (dropped_at before) (polls before ++ t ∷ []) (length (polls before)) t)) c)
+  step (t, act.Poll) before acts end None d m c e ih = quiet_step (t, act.Poll) before acts end (ap (λ o. dropped_in (on_poll_events limits request o (dropped_at before) (polls before) t)) c)
       (ap first_drop (after_same before c (t, act.Poll))) ih
   step (t, act.Drop) before acts end None d m c e ih = quiet_step (t, act.Drop) before acts end (ap (λ o. dropped_in (drop_events (on_drop limits request o (dropped_at before) (polls before)) (drops limits request (before ++ (t, act.Drop) ∷ []) t))) c)
       (ap first_drop (after_same before c (t, act.Drop))) ih
   step x before acts end (Some t0) (Some d) m c e ih = quiet_step x before acts end (idle_quiet before x t0 d c e) (dropped_kept before t0 c x d e ∙ sym e) ih
-  step (t, act.Call) before acts end (Some t0) None m c e ih = quiet_step (t, act.Call) before acts end refl (dropped_after_call before t0 c t) ih
+  step (t, act.Call) before acts end (Some t0) None m c e ih = let told = call_quiet limits request (called_at before) in quiet_step (t, act.Call) before acts end told.0 (dropped_after_call before t0 c t) ih
   step (t, act.Poll) before acts end (Some t0) None m c e ih = quiet_step (t, act.Poll) before acts end
-      (rw (c, e) (poll_quiet t0 (length (polls before)) t (first_answer limits request t0 (polls before ++ t ∷ [])))) (dropped_after_poll before t0 c t) ih
+      (rw (c, e) (poll_quiet t0 (polls before) t (first_answer limits request t0 (polls before ++ t ∷ [])))) (dropped_after_poll before t0 c t) ih
   step (t, act.Drop) before acts end (Some t0) None m c e ih = any_drop t before acts end t0 (first_answer limits request t0 (polls before)) m c e refl ih
 
   records : (acts before : List Own) (end : ℕ) → Marked limits request before → Records before acts end

@@ -15,10 +15,6 @@ too_long_line = codes "input over 16777216 bytes\n"
 abbrev pub bad_scenario_line : List ℕ
 bad_scenario_line = codes "bad scenario\n"
 
--- where the scenario has something in it that is not built yet
-abbrev pub not_built_line : List ℕ
-not_built_line = codes "not built\n"
-
 -- a line that names a refusal: why, and the number of what is refused
 abbrev pub refused_at : List ℕ → ℕ → List ℕ
 refused_at why number = codes "refused: " ++ (why ++ (codes " " ++ (decimal number ++ codes "\n")))

@@ -3,12 +3,12 @@ use Rattle.std.specs.Prelude.{◌≡◌, ℕ, ◌+◌, List, [], length, Option,
 use Rattle.life_script.specs.Scenario.{ScenarioView}
 use Rattle.life_script.specs.declared.scenario.Limits.{Limits}
 use Rattle.life_script.specs.declared.error.DriveError.{DriveError}
-use Rattle.life_script.specs.Reading.{Reads, IsBadScenario, IsNotBuilt}
+use Rattle.life_script.specs.Reading.{Reads, IsBadScenario}
 use Rattle.life_script.specs.Valid.{IsValid, verdict}
 use Rattle.life_stack.specs.Stack.Drive.{report_of}
 use Rattle.life_session.specs.Report.{report_text}
 use Rattle.life_stack.specs.Program.Input.{most_bytes, IsWhole}
-use Rattle.life_stack.specs.Program.Lines.{usage_line, too_long_line, bad_scenario_line, not_built_line, refused_line}
+use Rattle.life_stack.specs.Program.Lines.{usage_line, too_long_line, bad_scenario_line, refused_line}
 use Rattle.life_stack.specs.declared.program.words.Command.{Command}
 use Rattle.life_stack.specs.declared.program.words.Command.TheVariants.{Drive}
 use Rattle.life_stack.specs.declared.program.status.Status.{Status}
@@ -33,7 +33,7 @@ pub record IsRefusal (bytes text : List ℕ) : Type 0 where
 
 -- the bytes are no scenario, and the text is the line that says so
 abbrev pub IsUnread : List ℕ → List ℕ → Type 0
-IsUnread bytes text = (IsBadScenario bytes × (text ≡ bad_scenario_line)) ⊎ (IsNotBuilt bytes × (text ≡ not_built_line))
+IsUnread bytes text = IsBadScenario bytes × (text ≡ bad_scenario_line)
 
 -- the status and the text for the bytes that a source gave to its end
 abbrev pub IsOutputFor : List ℕ → Status → List ℕ → Type 0

@@ -1,8 +1,7 @@
 -- What the scripted service, its future and its bodies do: the items of their lists in order.
-use Rattle.std.specs.Prelude.{◌≡◌, ℕ, codes, Bool, true, false, ◌&&◌, nat_le, List, [], ◌++◌, length, drop, slice_get, Option, Some, None, Result, Ok, Err, IfOk}
+use Rattle.std.specs.Prelude.{◌≡◌, ℕ, Bool, true, false, ◌&&◌, nat_le, List, [], ◌++◌, length, drop, slice_get, Option, Some, None, Result, Ok, Err, IfOk}
 use Rattle.http.specs.declared.version.TheConstants.Version.{HTTP_11}
 use Rattle.http.specs.Request.{IsHeadFor}
-use Rattle.http_uri.specs.Uri.{HasParts}
 use Rattle.http_body.specs.Frame.{data_frame, trailers_frame}
 use Rattle.http_body.specs.declared.frame.Frame.{Frame}
 use Rattle.life_core.specs.History.{Adds}
@@ -187,9 +186,9 @@ pub record AsksFor (left : ℕ) (script : ScriptView) (i : ℕ) (req : Request (
   pub room : room_in req.body ≡ left
   pub items : asked_of req.body ≡ script.body
 
--- the request of a script and its number: GET /, HTTP/1.1, with the script's headers and body
+-- the request of a script and its number: its method and target, HTTP/1.1, with the script's headers and body
 pub record IsRequestOf (script : ScriptView) (i : ℕ) (r : Request ScriptBody Ext) : Type 0 where
-  pub head : IsHeadFor (codes "GET") (λ uri. HasParts uri None None (codes "/")) (record r.head.parts { headers = [] })
+  pub head : IsHeadFor script.method (λ uri. uri ≡ script.uri) (record r.head.parts { headers = [] })
   pub headers_are : r.head.parts.headers ≡ map_of script.headers
   pub numbered : IsNumbered i r
   pub no_id : ext_id r.head.ext ≡ None

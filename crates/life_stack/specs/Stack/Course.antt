@@ -7,10 +7,13 @@ use Rattle.life_script.specs.Reply.{ReplyView}
 use Rattle.life_script.specs.declared.scenario.Limits.{Limits}
 use Rattle.life_session.specs.Acts.{Own}
 use Rattle.life_session.specs.Course.{Course, Fresh, Awaited, Streamed, Over}
-use Rattle.life_stack.specs.Stack.Driven.{Plan, timed_body_history}
+use Rattle.life_stack.specs.Stack.Driven.{Plan, timed_body_history, watched_body_history}
 use Rattle.life_stack.specs.Table.Request.{Numbered}
 use Rattle.life_session.specs.Moments.{called_at, dropped_at, polls}
-use Rattle.life_stack.specs.Table.Story.{Failed, Replied, answers, any_ending, first_answer, kind_of}
+use Rattle.life_core.specs.declared.life.Life.{Life}
+use Rattle.life_trace.specs.History.{life_at}
+use Rattle.life_stack.specs.Table.Story.{Failed, Replied, answers, any_ending, body_answers, first_answer, kind_of}
+use Rattle.life_stack.specs.Table.Traced.{Given, any_closes, any_faults, last_ready}
 
 -- what the table looks at in the acts so far
 pub record Signs : Type 0 where
@@ -48,7 +51,14 @@ pub record AwaitedAfter (limits : Limits) (request : Numbered) (s : Signs) (t0 :
 
 -- the reply of a plan
 abbrev pub reply_of : Plan → ReplyView
-reply_of plan = record { status = plan.0.0; headers = plan.0.1; body = plan.1.1.items; tells = plan.1.1.tells }
+reply_of plan = record { status = plan.head.0; headers = plan.head.1; body = plan.inner.1.1.items; tells = plan.inner.1.1.tells }
+
+-- what has come of a body is what the answers so far tell
+pub record LifeIs (t0 ph : ℕ) (life : Life) (given : Given) : Type 0 where
+  pub responded : life.responded ≡ ph
+  pub last : life.last ≡ last_ready t0 given
+  pub closed : life.closed ≡ any_closes given
+  pub faulted : life.faulted ≡ any_faults given
 
 -- called at t0, answered by poll h with a response of this plan, not dropped, and polled at these times since
 pub record StreamedAfter (limits : Limits) (request : Numbered) (s : Signs) (t0 : ℕ) (plan : Plan) (past : List ℕ) : Type 0 where
@@ -56,11 +66,13 @@ pub record StreamedAfter (limits : Limits) (request : Numbered) (s : Signs) (t0 
   pub called : s.called ≡ Some t0
   pub undropped : s.dropped ≡ None
   pub first_answer_is : first_answer limits request t0 s.polls ≡ Some (h, Replied (reply_of plan))
-  pub at_first_answer : slice_index s.polls h ≡ plan.1.0
+  pub at_first_answer : slice_index s.polls h ≡ plan.inner.1.0
   pub past_is : past ≡ reverse (drop (suc h) s.polls)
   pub polled : length s.polls ≡ suc (h + length past)
-  pub kind : s.kind ≡ drop_kind.Body plan.0.0
-  pub ending : s.ending ≡ ended (timed_body_history limits.body_deadline plan.1) past
+  pub kind : s.kind ≡ drop_kind.Body plan.inner.0.0
+  pub ending : s.ending ≡ ended (timed_body_history limits.body_deadline plan.inner.1) past
+  pub life : LifeIs t0 plan.inner.1.0 (life_at t0 plan.responded (watched_body_history limits t0 plan.inner) past)
+      (body_answers limits.body_deadline (reply_of plan) plan.inner.1.0 0 (drop (suc h) s.polls))
 
 -- it was dropped, or a poll answered an error
 abbrev pub IsGone : Limits → Numbered → ℕ → Signs → Type 0

@@ -1,5 +1,5 @@
 -- The driven stack as one that keeps a table: its histories, where its values stand, its table and the key of each request.
-use Rattle.std.specs.Prelude.{[]}
+use Rattle.std.specs.Prelude.{[], ◌∷◌}
 use Rattle.life_core.specs.declared.message.Request.{Request}
 use Rattle.life_script.specs.declared.scenario.Limits.{Limits}
 use Rattle.life_session.specs.Course.{Histories, Standing, course_places}
@@ -10,13 +10,14 @@ use Rattle.life_stack.specs.Service.History.{Head, IsHead}
 use Rattle.life_stack.specs.Table.Request.{numbered, shown_headers}
 use Rattle.life_stack.specs.Service.Script.{IsRequestOf}
 use Rattle.life_stack.specs.Table.Story.{story_table}
+use Rattle.life_stack.specs.Table.Traced.{span_of, started}
 use Rattle.life_stack.specs.declared.service.ext.Ext.{Ext}
 use Rattle.life_stack.specs.declared.service.body.ScriptBody.{ScriptBody}
 
 -- what a future and a body of a request answer and record at each poll
 abbrev pub drive_histories : Histories Key Head Plan
 drive_histories = record {
-  called = λ k. [];
+  called = λ k. started (span_of k.0 k.1) ∷ [];
   future = λ k t0. future_history k.0 k.1 t0;
   body = λ k t0 plan. body_history k.0 t0 plan;
   shown = λ said. (said.0, shown_headers said.1);
@@ -29,7 +30,7 @@ drive_standing = record {
   asks = λ k req. IsRequestOf k.1.script k.1.number req;
   heads = IsHead;
   future = λ k t0. FutureStands k.0 k.1 t0;
-  body = λ k t0. BodyStands k.0 t0;
+  body = λ k t0. BodyStands k.0 k.1 t0;
 }
 
 -- the same by the acts so far

@@ -1,5 +1,5 @@
 -- The story of one request: what each of its acts answers and records, as a table over the finished list of its acts.
-use Rattle.std.specs.Prelude.{ℕ, suc, ◌+◌, ◌-◌, List, [], ◌∷◌, ◌++◌, length, slice_get, slice_index, Bool, true, false, ◌&&◌, ◌||◌, if◌then◌else◌, nat_le, nat_lt, ◌==◌, Option, Some, None, flat_map}
+use Rattle.std.specs.Prelude.{ℕ, suc, ◌+◌, ◌-◌, List, [], ◌∷◌, ◌++◌, length, drop, slice_get, slice_index, Bool, true, false, ◌&&◌, ◌||◌, if◌then◌else◌, nat_le, nat_lt, ◌==◌, Option, Some, None, flat_map}
 use Rattle.life_core.specs.Timer.{due, since}
 use Rattle.life_core.specs.declared.event.Event.{Event}
 use Rattle.life_core.specs.declared.event.Event.TheVariants as event
@@ -11,6 +11,8 @@ use Rattle.http_header.specs.FieldValue.{FieldValue}
 use Rattle.life_stack.specs.Table.Decision.{Decision, TooLarge, Forbidden, Panicked, Served, bare_reply, decision, forbidden_reply, panic_reply, too_large_reply}
 use Rattle.life_stack.specs.Table.Handed.{handed_bytes, service_events}
 use Rattle.life_stack.specs.Table.Request.{shown_headers, Numbered, ident, identified}
+use Rattle.life_stack.specs.Table.Traced.{Class, Given, at_once, chunked, class_of, elapsed_text, end_once, failed, failed_if, finished, latency, span_of, started, trailers_failure, while_open}
+use Rattle.life_classify.specs.Status.{error_class_text}
 use Rattle.life_script.specs.Told.{ToldView, TurnView}
 use Rattle.life_script.specs.Reply.{ReplyView}
 use Rattle.life_script.specs.declared.answer.Answer.{Answer}
@@ -227,20 +229,57 @@ drops limits request acts d = drops_at (called_at acts) (answers limits request 
 
 -- THE STORY.
 
+-- a request is traced from its first Call on
+abbrev pub on_call_events : Limits → Numbered → Option ℕ → List Event
+on_call_events limits request None = started (span_of limits request) ∷ []
+on_call_events limits request (Some t0) = []
+
 -- poll k at time t reaches the service where its timer is not due
 abbrev pub undue_events : Limits → Numbered → ℕ → ℕ → ℕ → List Event
 undue_events limits request t0 k t = if due t0 limits.timeout t then [] else service_events limits request k
 
--- the service is polled up to the first answer
-abbrev pub poll_events : Limits → Numbered → ℕ → ℕ → ℕ → Option (ℕ × Outcome) → List Event
-poll_events limits request t0 k t None = undue_events limits request t0 k t
-poll_events limits request t0 k t (Some (h, o)) = if nat_le k h then undue_events limits request t0 k t else []
+-- the first answer is traced, so long after the call
+abbrev pub outcome_events : Limits → Outcome → ℕ → List Event
+outcome_events limits (Replied reply) latency = finished reply.status reply.headers latency ∷ failed_if (at_once (class_of limits.classifier reply)) latency
+outcome_events limits (Failed error) latency = failed (error_class_text error) latency ∷ []
 
--- what is recorded by poll k, of these polls, by the times of the first Call and the first Drop
-abbrev pub on_poll_events : Limits → Numbered → Option ℕ → Option ℕ → List ℕ → ℕ → ℕ → List Event
-on_poll_events limits request None d ps k t = []
-on_poll_events limits request (Some t0) (Some d) ps k t = []
-on_poll_events limits request (Some t0) None ps k t = poll_events limits request t0 k t (first_answer limits request t0 ps)
+-- the answers of a body to polls at these times, the k-th and those after it, each with its time
+abbrev pub body_answers : ℕ → ReplyView → ℕ → ℕ → List ℕ → Given
+body_answers deadline reply ph k [] = []
+body_answers deadline reply ph k (q ∷ qs) = (q, body_answer deadline reply ph q k) ∷ body_answers deadline reply ph (suc k) qs
+
+-- item k, or none, is traced at q, behind the answers so far
+abbrev pub item_events : Class → ReplyView → ℕ → ℕ → Given → ℕ → ℕ → Option BodyItem → List Event
+item_events class reply t0 ph given q k None = end_once class t0 ph given q None
+item_events class reply t0 ph given q k (Some body_item.Pending) = []
+item_events class reply t0 ph given q k (Some (body_item.Trailers trailers)) = while_open class t0 ph given q (trailers_failure trailers) ++ end_once class t0 ph given q (Some trailers)
+item_events class reply t0 ph given q k (Some (body_item.Fault fault)) = while_open class t0 ph given q (Some (error_class_text fault))
+item_events class reply t0 ph given q k (Some (body_item.Chunk bytes)) =
+    chunked (length bytes) (latency class t0 ph given q) ∷ (if tells_after reply (suc k) then end_once class t0 ph given q None else [])
+
+-- the k-th poll of the body, at time q, is traced; once its deadline is due it faults
+abbrev pub body_events : Limits → ReplyView → ℕ → ℕ → Given → ℕ → ℕ → List Event
+body_events limits reply t0 ph given q k =
+    if due ph limits.body_deadline q then while_open (class_of limits.classifier reply) t0 ph given q (Some (error_class_text elapsed_text))
+    else item_events (class_of limits.classifier reply) reply t0 ph given q k (slice_get reply.body k)
+
+-- a poll at q after the first answer, which was at ph, and after polls at these times since
+abbrev pub later_events : Limits → Outcome → ℕ → ℕ → List ℕ → ℕ → List Event
+later_events limits (Replied reply) t0 ph qs q = body_events limits reply t0 ph (body_answers limits.body_deadline reply ph 0 qs) q (length qs)
+later_events limits (Failed error) t0 ph qs q = []
+
+-- a poll at t after polls at these times, by the first answer
+abbrev pub poll_events : Limits → Numbered → ℕ → List ℕ → ℕ → Option (ℕ × Outcome) → List Event
+poll_events limits request t0 ps t None = undue_events limits request t0 (length ps) t
+poll_events limits request t0 ps t (Some (h, o)) =
+    if length ps == h then undue_events limits request t0 (length ps) t ++ outcome_events limits o (since t0 t)
+    else later_events limits o t0 (slice_index ps h) (drop (suc h) ps) t
+
+-- what is recorded by a poll at t after these polls, by the times of the first Call and the first Drop
+abbrev pub on_poll_events : Limits → Numbered → Option ℕ → Option ℕ → List ℕ → ℕ → List Event
+on_poll_events limits request None d ps t = []
+on_poll_events limits request (Some t0) (Some d) ps t = []
+on_poll_events limits request (Some t0) None ps t = poll_events limits request t0 ps t (first_answer limits request t0 (ps ++ t ∷ []))
 
 -- the early drop stands in the turn of the Drop
 abbrev pub drop_events : Answer → List Event → List Event
@@ -256,8 +295,8 @@ drop_events ans.Dropped es = es
 
 -- what is recorded in the turn of an act
 abbrev pub events : Limits → Numbered → List Own → Own → List Event
-events limits request before (t, act.Call) = []
-events limits request before (t, act.Poll) = on_poll_events limits request (called_at before) (dropped_at before) (polls before ++ t ∷ []) (length (polls before)) t
+events limits request before (t, act.Call) = on_call_events limits request (called_at before)
+events limits request before (t, act.Poll) = on_poll_events limits request (called_at before) (dropped_at before) (polls before) t
 events limits request before (t, act.Drop) = drop_events (answer limits request before (t, act.Drop)) (drops limits request (before ++ (t, act.Drop) ∷ []) t)
 
 -- at the end where no Drop came

@@ -66,7 +66,6 @@ pub fn output_for(alloc: Global, bytes: &[u8]) -> Got<Output>
     match read_scenario(alloc, bytes) {
         Ok((limits, scenario)) => output_of(alloc, &limits, &scenario),
         Err(ReadError::BadScenario) => line(alloc, Status::BadScenario, "bad scenario\n"),
-        Err(ReadError::NotBuilt) => line(alloc, Status::BadScenario, "not built\n"),
         Err(ReadError::NoMemory) => Err(NoMemory),
     }
 }

@@ -9,7 +9,7 @@ ghost use Rattle.life_stack.specs.Table.Request.{numbered};
 ghost use Rattle.life_session.specs.Acts.{own};
 ghost use Rattle.life_stack.specs.Table.Story.{body_bytes, drop_records, drops, story};
 
-use crate::stack::keeping::EightLayers;
+use crate::stack::keeping::DrivenLayers;
 use life_script::{DriveError, Limits, Scenario};
 use life_session::Report;
 use std::alloc::Global;
@@ -35,5 +35,5 @@ pub fn drive(alloc: Global, limits: &Limits, scenario: &Scenario) -> Result<Repo
     ensures exact { IfErr (verdict scenario.now) (λ e. result ≡ Err e) }
     ensures complete { IsValid scenario.now → IfErr result (λ e. e ≡ OutOfMemory) }
 {
-    life_session::drive::<EightLayers>(alloc, limits, scenario)
+    life_session::drive::<DrivenLayers>(alloc, limits, scenario)
 }

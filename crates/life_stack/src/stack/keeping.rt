@@ -13,10 +13,10 @@ use life_session::Driven;
 use std::alloc::Global;
 use std::rc::Rc;
 
-/// The eight layers over the scripted service.
-pub struct EightLayers;
+/// The layers over the scripted service.
+pub struct DrivenLayers;
 
-impl Driven for EightLayers {
+impl Driven for DrivenLayers {
     type Limits = Limits;
 
     type Stack = DriveStack;
@@ -81,5 +81,5 @@ impl Driven for EightLayers {
     fn idles() {}
 }
 
-/// A session over the eight layers.
-pub type Session = life_session::Session<EightLayers>;
+/// A session over the driven layers.
+pub type Session = life_session::Session<DrivenLayers>;

@@ -133,7 +133,7 @@ fn request_span(alloc: Global, level: Level, parts: &Parts) -> Got<Span>
     let mut span = Span::new(alloc, level, "request")?;
     span.put(alloc, "method", parts.method.as_str())?;
     let uri = Text::shown(alloc, &parts.uri)?;
-    span.put(alloc, "uri", uri.as_str())?;
+    span.fields.push(Text::copy(alloc, "uri")?, uri)?;
     span.put(alloc, "version", version_text(parts.version))?;
     Ok(span)
 }

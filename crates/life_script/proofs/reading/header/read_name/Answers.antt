@@ -9,7 +9,7 @@ returns-in-Ok-clause-ok c =
     let e = c.as_bytes.ensures.value in
     name_good c.args.text.now c.in-Ok.name (λ no. let bad = c.in-Ok.ensures.invalid.1 (λ h. no (subst (λ (t : List ℕ). IsFieldName t) e h)) in cc) (c.in-Ok.ensures.ok ∙ ap lowercase e)
 
-pub returns-in-Err-Invalid-clause-ok : goal.returns-in-Err-Invalid-clause-ok
-returns-in-Err-Invalid-clause-ok c =
+pub returns-in-Err-Invalid-clause-bad : goal.returns-in-Err-Invalid-clause-bad
+returns-in-Err-Invalid-clause-bad c = λ _.
     let e = c.as_bytes.ensures.value in
     name_bad c.args.text.now (λ h. c.in-Err-Invalid.ensures.invalid.0 (cc) (subst (λ (t : List ℕ). IsFieldName t) (sym e) h))
