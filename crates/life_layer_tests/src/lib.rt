@@ -1,4 +1,4 @@
-//! Tests of the layers that time, watch, name, bound and gate requests, and of the one that catches panics.
+//! Tests of the layers that time, watch, name, bound, gate and count requests, and of the one that catches panics.
 #![tactic(auto)]
 
 #[cfg(test)]
@@ -9,6 +9,8 @@ mod catch_panic;
 mod early_drop;
 #[cfg(test)]
 mod early_drop_hooks;
+#[cfg(test)]
+mod in_flight_requests;
 #[cfg(test)]
 mod limit;
 #[cfg(test)]

@@ -1,0 +1,2 @@
+pub mod InFlightFollows
+pub mod LiveMoves

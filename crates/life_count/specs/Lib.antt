@@ -1,0 +1,5 @@
+pub mod Emitter
+pub mod History
+pub mod InFlight
+pub mod LiveNumber
+pub mod Meter
